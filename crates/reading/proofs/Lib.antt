@@ -1,0 +1,5 @@
+pub mod Units
+pub mod Laws
+pub mod Cases
+pub mod Shift
+pub mod Pattern

@@ -1,0 +1,127 @@
+-- Paper 01, "Cases beside the edges": the cases marked by a star, on the definitions that the calls' contracts cite; wheat and N 12. Then "Misreadings of the handbook".
+use mathlib.Core.List.{List, [], _∷_, _++_, map}
+use Prim.Native.Nat.{ℕ}
+use lib.ListN.{length, take, replicate}
+use lib.IntN.{ℤ, pos, negsuc, _+ℤ_}
+use lib.Ieee.{ofBits, binary32}
+use Rattle.reading.specs.Reading.{Said, hundredths, answerOf, saidBy}
+use Rattle.rules.specs.Sheets.{Sample, numbersOf}
+use Rattle.rules.specs.Lines.{openLine, checkDueLine}
+use Rattle.rules.specs.Held.{noSets, freshLine}
+use Rattle.rules.specs.Stations.{lineOf, sheetOf, marketOf}
+use Rattle.rules.specs.Replies.{Reply, refusedBy, outcome, certificate, sheetReply, marketReply}
+use Rattle.rules.specs.declared.Phase.{Phase}
+use Rattle.rules.specs.declared.Phase.the-variants.{New, Open, CheckDue}
+use Rattle.rules.specs.declared.Scan.{Scan}
+use Rattle.rules.specs.declared.Basis.{Basis}
+use Rattle.rules.specs.declared.Station.{Station}
+
+-- what a call shows: what a reading says; a sheet's reply and the line's intercept after it; a market test's reply
+pub data Seen : Type 0 where
+  read : Said → Seen
+  sheet : Reply → (intercept : ℤ) → Seen
+  market : Reply → Seen
+
+pub record Case : Type 0 where
+  pub gives : Seen
+  pub says : Seen
+
+-- the reading of a float, by its pattern
+abbrev pub readOf : (bits : ℕ) → Seen
+readOf bits = read (saidBy (answerOf (ofBits binary32 bits)))
+
+-- a wheat station of day 1 whose line has intercept 0, this phase, and past sets of day 1 with N 12 and these S
+abbrev pub stationWith : Phase → List ℤ → Station
+stationWith phase sums =
+    record {
+      row = 0;
+      day = 1;
+      lines =
+          record { intercept = pos 0; phase = phase; held = length sums; past = take 4 (map (λ s. record { day = 1; sum = s; count = 12 }) sums ++ noSets) }
+          ∷ freshLine ∷ freshLine ∷ [];
+    }
+
+-- a sample; one that deviates by so much; one measured again, with both results alike
+abbrev pub sample : (baseline first second third : ℤ) → Sample
+sample baseline first second third =
+    record { baseline = baseline; first = first; second = second; third = third; againFirst = negsuc 0; againSecond = negsuc 0 }
+
+abbrev pub off : ℤ → Sample
+off d = sample (pos 1000) (pos 1000 +ℤ d) (pos 1000) (negsuc 0)
+
+abbrev pub again : ℤ → Sample → Sample
+again r s = record { baseline = s .baseline; first = s .first; second = s .second; third = s .third; againFirst = r; againSecond = r }
+
+-- a sheet on day 2, on a line with a phase and past S
+abbrev pub sheetOn : Phase → List ℤ → List Sample → Seen
+sheetOn phase past ss =
+    let r = sheetOf (stationWith phase past) 2 0 (numbersOf ss) in
+    sheet (sheetReply (r .answer)) (lineOf (r .station) 0 .intercept)
+
+-- one sample of baseline 1300 with these results, and five that don't deviate
+abbrev pub results : (first second third : ℤ) → Seen
+results first second third = sheetOn New [] (sample (pos 1300) first second third ∷ replicate 5 (off (pos 0)))
+
+-- six deviations
+abbrev pub deviations : Phase → List ℤ → List ℤ → Seen
+deviations phase past ds = sheetOn phase past (map off ds)
+
+-- deviations 82 and −20, and four zeros; the first and the second sample measured again or not
+abbrev pub twoDeviations : (first second : Sample → Sample) → Seen
+twoDeviations first second =
+    sheetOn New [] (first (sample (pos 1000) (pos 1041) (pos 1041) (negsuc 0)) ∷ second (off (negsuc 19)) ∷ replicate 4 (off (pos 0)))
+
+-- a wheat scan on day 2, dry; on an open line of intercept 0 h is the float's reading
+abbrev pub dryOn : Phase → List ℤ → (bits : ℕ) → Seen
+dryOn phase past bits = market (marketReply (marketOf (stationWith phase past) 2 0 (Scan.Wheat (ofBits binary32 bits)) Basis.Dry .answer))
+
+-- the cases marked by a star
+unfoldable pub starred : List Case
+starred =
+    -- just below 0.005 reads 0; 0.125 reads 13
+    record { gives = readOf 0x3ba3_d70a; says = read (hundredths 0) }
+    ∷ record { gives = readOf 0x3e00_0000; says = read (hundredths 13) }
+    -- first 1300, second 1330: no third, so one is refused; without it S is 1300 + 1330 − 2600
+    ∷ record { gives = results (pos 1300) (pos 1330) (pos 1316); says = sheet (refusedBy 6) (pos 0) }
+    ∷ record { gives = results (pos 1300) (pos 1330) (negsuc 0); says = sheet (outcome (pos 30) 12 openLine (pos 0)) (pos 0) }
+    -- 1331 with 1316: the pair is 1331, 1316; with 1362 it is 1300, 1331
+    ∷ record { gives = results (pos 1300) (pos 1331) (pos 1316); says = sheet (outcome (pos 47) 12 openLine (pos 0)) (pos 0) }
+    ∷ record { gives = results (pos 1300) (pos 1331) (pos 1362); says = sheet (outcome (pos 31) 12 openLine (pos 0)) (pos 0) }
+    -- 82 and −20: again due for the first, and for it alone
+    ∷ record { gives = twoDeviations (λ s. s) (λ s. s); says = sheet (refusedBy 7) (pos 0) }
+    ∷ record { gives = twoDeviations (again (pos 1000)) (again (pos 1000)); says = sheet (refusedBy 7) (pos 0) }
+    ∷ record { gives = twoDeviations (again (pos 1000)) (λ s. s); says = sheet (outcome (negsuc 19) 12 openLine (pos 0)) (pos 0) }
+    -- new, S 120: open; 121: intercept −10
+    ∷ record { gives = deviations New [] (pos 20 ∷ pos 20 ∷ pos 20 ∷ pos 20 ∷ pos 20 ∷ pos 20 ∷ []); says = sheet (outcome (pos 120) 12 openLine (pos 0)) (pos 0) }
+    ∷ record { gives = deviations New [] (pos 20 ∷ pos 20 ∷ pos 20 ∷ pos 20 ∷ pos 20 ∷ pos 21 ∷ []); says = sheet (outcome (pos 121) 12 checkDueLine (negsuc 9)) (negsuc 9) }
+    -- open, past S 70: S 98 stays open, 99 adjusts by 7
+    ∷ record { gives = deviations Open (pos 70 ∷ []) (pos 16 ∷ pos 16 ∷ pos 16 ∷ pos 16 ∷ pos 17 ∷ pos 17 ∷ []); says = sheet (outcome (pos 98) 12 openLine (pos 0)) (pos 0) }
+    ∷ record { gives = deviations Open (pos 70 ∷ []) (pos 16 ∷ pos 16 ∷ pos 16 ∷ pos 17 ∷ pos 17 ∷ pos 17 ∷ []); says = sheet (outcome (pos 99) 12 checkDueLine (negsuc 6)) (negsuc 6) }
+    -- fifth set, five S of 36: open; of 37: adjusts by 3
+    ∷ record { gives = deviations Open (replicate 4 (pos 36)) (replicate 6 (pos 6)); says = sheet (outcome (pos 36) 12 openLine (pos 0)) (pos 0) }
+    ∷ record { gives = deviations Open (replicate 4 (pos 37)) (pos 7 ∷ replicate 5 (pos 6)); says = sheet (outcome (pos 37) 12 checkDueLine (negsuc 2)) (negsuc 2) }
+    -- check due: S 60 opens, 61 adjusts by 5
+    ∷ record { gives = deviations CheckDue [] (replicate 6 (pos 10)); says = sheet (outcome (pos 60) 12 openLine (pos 0)) (pos 0) }
+    ∷ record { gives = deviations CheckDue [] (pos 11 ∷ replicate 5 (pos 10)); says = sheet (outcome (pos 61) 12 checkDueLine (negsuc 4)) (negsuc 4) }
+    -- h 1354 dry: 135 and 154; h 1350 dry: 135 and 153 (13.54 and 13.5)
+    ∷ record { gives = dryOn Open (pos 0 ∷ []) 0x4158_a3d7; says = market (certificate 1 (pos 0) (pos 0) 135 154) }
+    ∷ record { gives = dryOn Open (pos 0 ∷ []) 0x4158_0000; says = market (certificate 1 (pos 0) (pos 0) 135 153) }
+    ∷ []
+
+-- what comes out where the handbook may be misread
+unfoldable pub misreadings : List Case
+misreadings =
+    -- the float is not multiplied in single precision: 3BA3D70A reads 0, not 1
+    record { gives = readOf 0x3ba3_d70a; says = read (hundredths 0) }
+    -- the rounded figure is not converted: h 1354 dry is 154, not 153
+    ∷ record { gives = dryOn Open (pos 0 ∷ []) 0x4158_a3d7; says = market (certificate 1 (pos 0) (pos 0) 135 154) }
+    -- set averages are not averaged after a dropped sample: S 83 of N 10 and past S 70 of N 12 are 153 of 22, at most 7, though the averages' mean is above 7
+    ∷ record {
+      gives =
+          sheetOn Open (pos 70 ∷ [])
+          (again (pos 1100) (sample (pos 1000) (pos 1100) (pos 1100) (negsuc 0)) ∷ map off (pos 17 ∷ pos 17 ∷ pos 17 ∷ pos 16 ∷ pos 16 ∷ []));
+      says = sheet (outcome (pos 83) 10 openLine (pos 0)) (pos 0);
+    }
+    -- an adjusted line doesn't test before its check
+    ∷ record { gives = dryOn CheckDue [] 0x4158_0000; says = market (refusedBy 12) }
+    ∷ []

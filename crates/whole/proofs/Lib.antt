@@ -1,0 +1,6 @@
+pub mod Tests
+pub mod PartLaws
+pub mod Linear
+pub mod Fold
+pub mod ListLaws
+pub mod Read

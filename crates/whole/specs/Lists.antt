@@ -1,0 +1,44 @@
+-- Tests over a list, and the sum, the largest and the smallest of a list of whole numbers.
+use mathlib.Core.Bool.{Bool, true, false, not, _&&_, _||_, cond, Bool·beq}
+use mathlib.Core.List.{List, [], _∷_}
+use lib.IntN.{ℤ, pos, _+ℤ_}
+use lib.Signed.{leZ}
+
+-- the two tests give different answers
+abbrev pub differ : Bool → Bool → Bool
+differ a b = not (Bool·beq a b)
+
+module _ {A : Type 0} where
+  -- some element passes the test
+  abbrev pub any : (A → Bool) → List A → Bool
+  any p [] = false
+  any p (x ∷ xs) = p x || any p xs
+
+  -- every element passes the test
+  abbrev pub all : (A → Bool) → List A → Bool
+  all p [] = true
+  all p (x ∷ xs) = p x && all p xs
+
+-- the sum of a list
+abbrev pub total : List ℤ → ℤ
+total [] = pos 0
+total (x ∷ xs) = x +ℤ total xs
+
+-- the larger of two, and the smaller
+abbrev pub largerOf : ℤ → ℤ → ℤ
+largerOf a b = cond (leZ a b) b a
+
+abbrev pub smallerOf : ℤ → ℤ → ℤ
+smallerOf a b = cond (leZ a b) a b
+
+-- the largest of a list that isn't empty
+abbrev pub largest : List ℤ → ℤ
+largest [] = pos 0
+largest (x ∷ []) = x
+largest (x ∷ y ∷ ys) = largerOf x (largest (y ∷ ys))
+
+-- the smallest of a list that isn't empty
+abbrev pub smallest : List ℤ → ℤ
+smallest [] = pos 0
+smallest (x ∷ []) = x
+smallest (x ∷ y ∷ ys) = smallerOf x (smallest (y ∷ ys))
