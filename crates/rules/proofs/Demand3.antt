@@ -147,6 +147,7 @@ module _ (row : ℕ) (exists : T (rowExists row)) where
               (subst⁻¹ (λ (n : ℕ). WithinDistance (standardBasis (b .row)) (natAbs (ours b day line scan basis .basis)) n x (bookIntercept line (b .entries))) (f .figure-is)
               (figure-within b day line scan basis (conditions-from b day line scan basis (f .none-applies))))));
           exact = reading-laws (lineFloat scan line) .exact;
+          notNegative = λ c s m e q. reading-laws (lineFloat scan line) .sign s m e q (c .number9);
         }
       where
         b : Book

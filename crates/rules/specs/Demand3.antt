@@ -107,9 +107,10 @@ module _ (row : ℕ) (before : List Call) (day line : ℕ) (scan : Scan) (basis 
     pub asked : (d : ℕ) (i b : ℤ) (figure converted : ℕ) → Certifies d i b figure converted → b ≡ basisOf (standardBasis row) basis
     pub distance : (d : ℕ) (i b : ℤ) (figure converted : ℕ) → Certifies d i b figure converted
         → WithinDistance (standardBasis row) (natAbs b) converted (lineFloat scan line) sumThen
-    -- the units are the exact value of every f32: of fin s m e, whose magnitude is m · up e / down e
+    -- the units are the exact value: for every f32 fin s m e they are its magnitude m · up e / down e, and it is not negative unless zero
     pub exact : (s : Bool) (m : ℕ) (e : ℤ) → lineFloat scan line ≡ fin s m e → T (fits binary32 (lineFloat scan line))
         → unitsOf (lineFloat scan line) * down e ≡ m * up e * unit
+    pub notNegative : MarketConditions bookThen day line scan basis → (s : Bool) (m : ℕ) (e : ℤ) → lineFloat scan line ≡ fin s m e → s ≡ true → m ≡ 0
 
 -- demand 3 of a list of calls
 pub record Demand3 (row : ℕ) (calls : List Call) : Type 0 where
