@@ -52,7 +52,8 @@ none-valid day d [] h t = refl
 none-valid day d (p ∷ ps) h t =
     let le : p .day ≤ d = leb→le (p .day) d (and-l (leb (p .day) d) (daysFall (p .day) ps) t) in
     let old : p .day + 14 < day = omega arith in
-    rw (lt-leb day (p .day + 14) old) (none-valid day (p .day) ps old (and-r (leb (p .day) d) (daysFall (p .day) ps) t))
+    ap (λ (b : Bool). cond b (p ∷ validOn day ps) (validOn day ps)) (lt-leb day (p .day + 14) old)
+    ∙ none-valid day (p .day) ps old (and-r (leb (p .day) d) (daysFall (p .day) ps) t)
 
 valid-cons : (b : Bool) (n : ℕ) (p : PastSet) (kept keptTake : List PastSet)
     → (b ≡ true → keptTake ≡ take n kept) → (b ≡ false → (keptTake ≡ []) × (kept ≡ []))
