@@ -15,7 +15,7 @@ use Rattle.rules.specs.Refusals.{Check, firstNumber}
 use Rattle.rules.specs.Sheets.{Sample, samplesOf, isResult, absent, wrongNumber, wrongThird, wrongAgain, Pair, pair, spread, pairSum, closer, closestPair, thirdDue, usedPair, deviation, firstDeviation, finalDeviation, againRound, againDue, kept, keptSamples, setOf, sheetChecks}
 use Rattle.whole.proofs.Tests.{and-l, and-r, and-i, or-none, not-false-T}
 use Rattle.whole.proofs.ListLaws.{by-test}
-use Rattle.rules.proofs.Checks.{none-head, none-tail}
+use Rattle.rules.proofs.Checks.{none-applies}
 use Rattle.rules.proofs.Magnitudes.{abs-sum, abs-difference, abs-twice, swap-sum}
 use Rattle.rules.specs.declared.Set.{Set}
 use Rattle.rules.specs.declared.Limits.{Limits}
@@ -194,13 +194,6 @@ pub record Bounded (n : ℕ) (set : Set) : Type 0 where
   pub most : set .count ≤ 2 * n
   pub size : natAbs (set .sum) ≤ 11000 * set .count
 
-four-none : (c₁ c₂ c₃ c₄ : Check) → firstNumber (c₁ ∷ c₂ ∷ c₃ ∷ c₄ ∷ []) ≡ none
-    → (c₁ .applies ≡ false) × (c₂ .applies ≡ false) × (c₃ .applies ≡ false) × (c₄ .applies ≡ false)
-four-none c₁ c₂ c₃ c₄ e =
-    let e₂ = none-tail c₁ (c₂ ∷ c₃ ∷ c₄ ∷ []) e in
-    let e₃ = none-tail c₂ (c₃ ∷ c₄ ∷ []) e₂ in
-    (none-head c₁ (c₂ ∷ c₃ ∷ c₄ ∷ []) e, none-head c₂ (c₃ ∷ c₄ ∷ []) e₂, none-head c₃ (c₄ ∷ []) e₃, none-head c₄ [] (none-tail c₃ (c₄ ∷ []) e₃))
-
 pub set-bounded : (limits : Limits) (i : ℤ) (n : ℕ) (numbers : List ℤ) → natAbs i ≤ 1000
     → firstNumber (sheetChecks limits i n numbers) ≡ none → Bounded n (setOf limits i numbers)
 unfolding sheetChecks setOf keptSamples
@@ -212,7 +205,7 @@ set-bounded limits i n numbers hi e =
     f : (not (eqb (length numbers) (6 * n)) ≡ false) × (any wrongNumber (samplesOf numbers) ≡ false)
         × (any (wrongThird limits) (samplesOf numbers) ≡ false)
         × (any (wrongAgain limits i (againRound limits i (samplesOf numbers))) (samplesOf numbers) ≡ false)
-    f = four-none _ _ _ _ e
+    f = let n = none-applies (sheetChecks limits i n numbers) e in (n .0, n .1 .0, n .1 .1 .0, n .1 .1 .1 .0)
 
     bounded : (ss : List Sample) (round : Bool) → 6 * length ss ≤ length numbers → length numbers ≡ 6 * n
         → T (all (λ s. leb (natAbs (finalDeviation limits i round s)) 22000) ss)
@@ -223,3 +216,15 @@ set-bounded limits i n numbers hi e =
           most = omega (arith, length-keep (kept limits i round) ss);
           size = omega (arith, sum-bound (finalDeviation limits i round) (kept limits i round) ss each);
         }
+
+-- N alone needs no bound of the intercept
+pub count-bounded : (limits : Limits) (i : ℤ) (n : ℕ) (numbers : List ℤ) → firstNumber (sheetChecks limits i n numbers) ≡ none → setOf limits i numbers .count ≤ 2 * n
+unfolding sheetChecks setOf keptSamples
+count-bounded limits i n numbers e =
+    let ss = samplesOf numbers in
+    omega (
+      arith,
+      length-keep (kept limits i (againRound limits i ss)) ss,
+      length-samples numbers,
+      eqb→eq (length numbers) (6 * n) (not-false-T (eqb (length numbers) (6 * n)) (none-applies (sheetChecks limits i n numbers) e .0)),
+    )
