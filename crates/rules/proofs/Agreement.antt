@@ -39,7 +39,7 @@ use Rattle.rules.specs.declared.Set.{Set}
 use Rattle.rules.specs.declared.Verdict.{Verdict}
 use Rattle.rules.specs.declared.Station.{Station}
 use Rattle.rules.proofs.Checks.{hasRefusal, known-number, none-head, none-tail, passed-over}
-use Rattle.rules.proofs.ListLaws.{all-take, all-at}
+use Rattle.whole.proofs.Elements.{all-take, all-at}
 use Rattle.rules.proofs.RowFacts.{row-facts}
 use Rattle.rules.proofs.NewestFour.{numbers-four, set-four, sheet-verdict-four, market-numbers-four, certificate-four}
 use Rattle.rules.proofs.SheetBounds.{Bounded, set-bounded}

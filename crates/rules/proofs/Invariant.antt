@@ -18,7 +18,7 @@ use Rattle.rules.specs.declared.Phase.the-variants.{New, Open, CheckDue}
 use Rattle.rules.specs.declared.PastSet.{PastSet}
 use Rattle.rules.specs.declared.Line.{Line}
 use Rattle.whole.proofs.Tests.{and-i}
-use Rattle.rules.proofs.ListLaws.{all-take, take-min}
+use Rattle.whole.proofs.Elements.{all-take, take-min}
 use Rattle.rules.proofs.NewestFour.{newestFour, falls-later, falls-take}
 use Rattle.rules.proofs.BookValues.{repairedWord}
 use Rattle.rules.specs.declared.Verdict.{Verdict}

@@ -1,6 +1,5 @@
 -- The theorem about every list of calls (`Demand3`), and the laws on the way to it.
 pub mod Checks
-pub mod ListLaws
 pub mod RowFacts
 pub mod Magnitudes
 pub mod SheetBounds

@@ -9,7 +9,7 @@ use Rattle.whole.specs.Lists.{all}
 use Rattle.whole.proofs.Tests.{and-l, and-r}
 use Rattle.rules.specs.Rows.{Row, rows, corn, limits, rowOf, samples, standardBasis, lineCount, limitsOf}
 use Rattle.rules.specs.declared.Limits.{Limits}
-use Rattle.rules.proofs.ListLaws.{at-all, all-get}
+use Rattle.whole.proofs.Elements.{at-all, all-get}
 
 -- a limit of 1..1000
 abbrev limitFine : ℕ → Bool

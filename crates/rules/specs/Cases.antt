@@ -1,4 +1,4 @@
--- Paper 01, "Cases beside the edges": the cases marked by a star, on the definitions that the calls' contracts cite; wheat and N 12. Then "Misreadings of the handbook".
+-- What a call of paper 01's cases shows, how the station's cases are made, and "Misreadings of the handbook". The cases marked by a star are in the crate `starred`.
 use mathlib.Core.List.{List, [], _∷_, _++_, map}
 use Prim.Native.Nat.{ℕ}
 use lib.ListN.{length, take, replicate}
@@ -16,11 +16,13 @@ use Rattle.rules.specs.declared.Scan.{Scan}
 use Rattle.rules.specs.declared.Basis.{Basis}
 use Rattle.rules.specs.declared.Station.{Station}
 
--- what a call shows: what a reading says; a sheet's reply and the line's intercept after it; a market test's reply
+-- what a call shows: what a reading says; a sheet's reply and the line's intercept after it; a market test's reply; a charted set's average absolute, tolerance and
+-- run, 1 or 0 each
 pub data Seen : Type 0 where
   read : Said → Seen
   sheet : Reply → (intercept : ℤ) → Seen
   market : Reply → Seen
+  charted : (limits : List ℤ) → Seen
 
 pub record Case : Type 0 where
   pub gives : Seen
@@ -74,39 +76,6 @@ twoDeviations first second =
 -- a wheat scan on day 2, dry; on an open line of intercept 0 h is the float's reading
 abbrev pub dryOn : Phase → List ℤ → (bits : ℕ) → Seen
 dryOn phase past bits = market (marketReply (marketOf (stationWith phase past) 2 0 (Scan.Wheat (ofBits binary32 bits)) Basis.Dry .answer))
-
--- the cases marked by a star
-unfoldable pub starred : List Case
-starred =
-    -- just below 0.005 reads 0; 0.125 reads 13
-    record { gives = readOf 0x3ba3_d70a; says = read (hundredths 0) }
-    ∷ record { gives = readOf 0x3e00_0000; says = read (hundredths 13) }
-    -- first 1300, second 1330: no third, so one is refused; without it S is 1300 + 1330 − 2600
-    ∷ record { gives = results (pos 1300) (pos 1330) (pos 1316); says = sheet (refusedBy 6) (pos 0) }
-    ∷ record { gives = results (pos 1300) (pos 1330) (negsuc 0); says = sheet (outcome (pos 30) 12 openLine (pos 0)) (pos 0) }
-    -- 1331 with 1316: the pair is 1331, 1316; with 1362 it is 1300, 1331
-    ∷ record { gives = results (pos 1300) (pos 1331) (pos 1316); says = sheet (outcome (pos 47) 12 openLine (pos 0)) (pos 0) }
-    ∷ record { gives = results (pos 1300) (pos 1331) (pos 1362); says = sheet (outcome (pos 31) 12 openLine (pos 0)) (pos 0) }
-    -- 82 and −20: again due for the first, and for it alone
-    ∷ record { gives = twoDeviations (λ s. s) (λ s. s); says = sheet (refusedBy 7) (pos 0) }
-    ∷ record { gives = twoDeviations (again (pos 1000)) (again (pos 1000)); says = sheet (refusedBy 7) (pos 0) }
-    ∷ record { gives = twoDeviations (again (pos 1000)) (λ s. s); says = sheet (outcome (negsuc 19) 12 openLine (pos 0)) (pos 0) }
-    -- new, S 120: open; 121: intercept −10
-    ∷ record { gives = deviations New [] (pos 20 ∷ pos 20 ∷ pos 20 ∷ pos 20 ∷ pos 20 ∷ pos 20 ∷ []); says = sheet (outcome (pos 120) 12 openLine (pos 0)) (pos 0) }
-    ∷ record { gives = deviations New [] (pos 20 ∷ pos 20 ∷ pos 20 ∷ pos 20 ∷ pos 20 ∷ pos 21 ∷ []); says = sheet (outcome (pos 121) 12 checkDueLine (negsuc 9)) (negsuc 9) }
-    -- open, past S 70: S 98 stays open, 99 adjusts by 7
-    ∷ record { gives = deviations Open (pos 70 ∷ []) (pos 16 ∷ pos 16 ∷ pos 16 ∷ pos 16 ∷ pos 17 ∷ pos 17 ∷ []); says = sheet (outcome (pos 98) 12 openLine (pos 0)) (pos 0) }
-    ∷ record { gives = deviations Open (pos 70 ∷ []) (pos 16 ∷ pos 16 ∷ pos 16 ∷ pos 17 ∷ pos 17 ∷ pos 17 ∷ []); says = sheet (outcome (pos 99) 12 checkDueLine (negsuc 6)) (negsuc 6) }
-    -- fifth set, five S of 36: open; of 37: adjusts by 3
-    ∷ record { gives = deviations Open (replicate 4 (pos 36)) (replicate 6 (pos 6)); says = sheet (outcome (pos 36) 12 openLine (pos 0)) (pos 0) }
-    ∷ record { gives = deviations Open (replicate 4 (pos 37)) (pos 7 ∷ replicate 5 (pos 6)); says = sheet (outcome (pos 37) 12 checkDueLine (negsuc 2)) (negsuc 2) }
-    -- check due: S 60 opens, 61 adjusts by 5
-    ∷ record { gives = deviations CheckDue [] (replicate 6 (pos 10)); says = sheet (outcome (pos 60) 12 openLine (pos 0)) (pos 0) }
-    ∷ record { gives = deviations CheckDue [] (pos 11 ∷ replicate 5 (pos 10)); says = sheet (outcome (pos 61) 12 checkDueLine (negsuc 4)) (negsuc 4) }
-    -- h 1354 dry: 135 and 154; h 1350 dry: 135 and 153 (13.54 and 13.5)
-    ∷ record { gives = dryOn Open (pos 0 ∷ []) 0x4158_a3d7; says = market (certificate 1 (pos 0) (pos 0) 135 154) }
-    ∷ record { gives = dryOn Open (pos 0 ∷ []) 0x4158_0000; says = market (certificate 1 (pos 0) (pos 0) 135 153) }
-    ∷ []
 
 -- what comes out where the handbook may be misread
 unfoldable pub misreadings : List Case

@@ -4,3 +4,4 @@ pub mod Linear
 pub mod Fold
 pub mod ListLaws
 pub mod Read
+pub mod Elements

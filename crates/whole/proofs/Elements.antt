@@ -1,4 +1,4 @@
--- Laws of tests over a list and of its first elements.
+-- Laws of tests at the places of a list, and of its first elements.
 use mathlib.Core.Path.{_≡_, refl, sym, _∙_, ap}
 use mathlib.Core.Bool.{Bool, false}
 use mathlib.Core.List.{List, [], _∷_}

@@ -1,0 +1,21 @@
+-- Paper 01's chart cases hold of the definitions that the chart call's contract cites.
+use mathlib.Core.Path.{_≡_, refl}
+use mathlib.Core.List.{map}
+use Rattle.decimal.specs.Show.{shown, show, showSigned}
+use Rattle.chart_sets.specs.Sets.{badWeek, badSize, outside, badResult, setOf}
+use Rattle.chart_sets.specs.Soundness.{soundSet}
+use Rattle.chart_rules.specs.Rows.{limitsOf}
+use Rattle.chart_rules.specs.Rules.{absolute, atOrAbove, atOrBelow, tolerance, rangeTolerance, above, below, oneSide, sixtieths, runBy, run}
+use Rattle.chart.specs.Charts.{sound, freshChart, nextChart}
+use Rattle.chart.specs.Lines.{valuesOf, flagBytes, lineOf}
+use Rattle.chart.specs.Calls.{refusalOf, decided, accepted, resultOf, bytesOf}
+use Rattle.chart.specs.Cases.{runs, week26, line26}
+
+pub runs-hold : map (λ c. c .gives) runs ≡ map (λ c. c .says) runs
+unfolding runs badSize outside badResult setOf soundSet limitsOf absolute atOrAbove atOrBelow tolerance rangeTolerance above below oneSide sixtieths runBy run sound nextChart valuesOf badWeek refusalOf decided accepted resultOf
+runs-hold = refl
+
+-- the output line of week 26
+pub line-26 : bytesOf (resultOf (freshChart 0) 26 week26 40 .answer) ≡ line26
+unfolding shown show showSigned badSize outside badResult setOf soundSet limitsOf absolute atOrAbove atOrBelow tolerance rangeTolerance above below oneSide sixtieths runBy run sound nextChart valuesOf flagBytes lineOf badWeek refusalOf decided accepted resultOf bytesOf
+line-26 = refl

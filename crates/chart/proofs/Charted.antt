@@ -1,0 +1,96 @@
+-- The output line's length, and what a refused call leaves.
+use mathlib.Core.Path.{_≡_, refl, sym, ap, _∙_}
+use mathlib.Core.List.{List}
+use mathlib.Core.Option.{some}
+use Prim.Native.Nat.{ℕ, _≤_}
+use native.Mathlib.Omega.{arith}
+use lib.IntN.{ℤ}
+use lib.ListN.{length, length-append}
+use borrow.Author.Tests.{le-ltb}
+use Rattle.whole.proofs.PartLaws.{either, sizeParts}
+use Rattle.decimal.specs.Put.{overwritten}
+use Rattle.decimal.proofs.Show.{width-5}
+use Rattle.decimal.proofs.Signs.{width-signed}
+use Rattle.chart_sets.specs.Sets.{setOf}
+use Rattle.chart_sets.specs.Soundness.{SetFits}
+use Rattle.chart_sets.specs.declared.ChartSet.{ChartSet}
+use Rattle.chart.specs.Lines.{valuesOf, lineOf, FiveDigits}
+use Rattle.chart.specs.Calls.{refusalOf, accepted, resultOf, bytesOf, SetCharted, chartSetOf}
+use Rattle.chart.specs.Answers.{chartSays}
+use Rattle.chart.specs.Laws.{RefusedUntouched, LineFits}
+use Rattle.chart.specs.declared.Chart.{Chart}
+use Rattle.chart.specs.declared.Values.{Values}
+use Rattle.chart.specs.declared.ChartResult.{ChartResult}
+use Rattle.chart.specs.declared.ChartAnswer.the-variants.{Charted}
+use Rattle.chart.proofs.Places.{flags-length}
+use Rattle.chart.proofs.Soundness.{FineCall, call-cases, fine-set}
+use Rattle.chart_sets.proofs.Sums.{week-facts}
+
+-- a buffer of 40 bytes is as good as any longer one
+pub enough-room : (c : Chart) (week : ℕ) (numbers : List ℤ) (room : ℕ) → 40 ≤ room → resultOf c week numbers room ≡ resultOf c week numbers 40
+unfolding resultOf refusalOf
+enough-room c week numbers room h = rw (le-ltb room 40 h)
+
+-- ---- lines
+pub values-small : (c : Chart) (week : ℕ) (s : ChartSet) → week ≤ 9999 → SetFits s → FiveDigits (valuesOf c week s)
+unfolding valuesOf
+values-small c week s h f =
+    record { week = omega arith; count = omega (arith, f .five); sum = omega (arith, f .sum, sizeParts (s .sum), either (s .sum)); range = omega (arith, f .range) }
+
+line-short : (v : Values) → FiveDigits v → length (lineOf v) ≤ 40
+unfolding lineOf
+line-short v h =
+    simp length-append
+    (omega (arith, width-5 (v .week) (h .week), width-5 (v .count) (h .count), width-signed (v .sum) (h .sum), width-5 (v .range) (h .range), flags-length v))
+
+fine-short : (c : Chart) (week : ℕ) (numbers : List ℤ) (room : ℕ) → FineCall c week numbers room → length (lineOf (valuesOf c week (setOf numbers))) ≤ 40
+fine-short c week numbers room f =
+    line-short _ (values-small c week (setOf numbers) (week-facts (c .week) week (f .time) .1) (fine-set c week numbers room f))
+
+line-40 : (c : Chart) (week : ℕ) (numbers : List ℤ) (room : ℕ) → length (bytesOf (resultOf c week numbers room .answer)) ≤ 40
+unfolding accepted bytesOf
+line-40 c week numbers room =
+    call-cases c week numbers room (λ r. length (bytesOf (r .answer)) ≤ 40) (λ r. omega arith) (λ f. fine-short c week numbers room f)
+
+line-room : (c : Chart) (week : ℕ) (numbers : List ℤ) (room : ℕ) → length (bytesOf (resultOf c week numbers room .answer)) ≤ room
+unfolding accepted bytesOf
+line-room c week numbers room =
+    call-cases c week numbers room (λ r. length (bytesOf (r .answer)) ≤ room) (λ r. omega arith)
+    (λ f. omega (arith, fine-short c week numbers room f, f .place))
+
+pub line-fits : LineFits
+line-fits = record { forty = line-40; inside = line-room }
+
+-- the length that is answered is the line's
+pub charted-length : (c : Chart) (week : ℕ) (numbers : List ℤ) (room : ℕ) (v : Values) (k : ℕ) → resultOf c week numbers room .answer ≡ Charted v k → k ≡ length (lineOf v)
+unfolding accepted
+charted-length c week numbers room v k =
+    call-cases c week numbers room (λ r. r .answer ≡ Charted v k → k ≡ length (lineOf v))
+    (λ r e. let z : _≡_ {A = ℕ} 0 1 = cc in absurd (omega arith))
+    (λ f e. cc)
+
+-- ---- a refused call
+-- what is to be shown of a call's result
+Untouched : Chart → List ℕ → ChartResult → Type 0
+Untouched c buffer r = (n : ℕ) → chartSays (r .answer) .number ≡ some n → (r .chart ≡ c) × (overwritten (bytesOf (r .answer)) buffer ≡ buffer)
+
+untouched : (c : Chart) (week : ℕ) (numbers : List ℤ) (room : ℕ) (buffer : List ℕ) → Untouched c buffer (resultOf c week numbers room)
+unfolding Untouched accepted bytesOf
+untouched c week numbers room buffer =
+    call-cases c week numbers room (Untouched c buffer) (λ r n e. (refl, refl))
+    (λ f n e. let z : _≡_ {A = ℕ} 0 1 = cc in absurd (omega arith))
+
+pub refused-untouched : RefusedUntouched
+unfolding chartSetOf Untouched
+refused-untouched = record {
+  chart = λ c week numbers buffer n e. untouched c week numbers (length buffer) buffer n e .0;
+  buffer = λ c week numbers buffer n e. untouched c week numbers (length buffer) buffer n e .1;
+}
+
+-- ---- the call's contract, from its result and what was written
+pub call-is : (c : Chart) (week : ℕ) (numbers : List ℤ) (old new : List ℕ) (r : ChartResult)
+    → r ≡ resultOf c week numbers (length old) → new ≡ overwritten (bytesOf (r .answer)) old → _≡_ {A = SetCharted} (chartSetOf c week numbers old) (record { result = r; buffer = new })
+unfolding chartSetOf
+call-is c week numbers old new r is bytes =
+    let all = ap (λ (x : ChartResult). overwritten (bytesOf (x .answer)) old) (sym is) ∙ sym bytes in
+    λ i. record { result = sym is i; buffer = all i }

@@ -1,0 +1,50 @@
+-- What the chart call promises besides its contract.
+use Prim.Native.Nat.{ℕ, _≤_, _<_}
+use mathlib.Core.Path.{_≡_}
+use mathlib.Core.Bool.{true, false}
+use mathlib.Core.List.{List, [], _∷_, map}
+use mathlib.Core.Option.{none, some}
+use lib.IntN.{ℤ}
+use lib.ListN.{length, take}
+use Rattle.chart_sets.specs.declared.ChartSet.{ChartSet}
+use Rattle.chart_rules.specs.Rows.{rowExists}
+use Rattle.chart.specs.Refusals.{numberOf}
+use Rattle.chart.specs.Charts.{sound, pastOf, openOf, nextChart}
+use Rattle.chart.specs.Calls.{checksOf, resultOf, bytesOf, chartSetOf}
+use Rattle.chart.specs.Answers.{openSays, chartSays}
+use Rattle.chart.specs.declared.Chart.{Chart}
+
+-- an opened chart is sound, and a sound chart stays sound
+pub record StaysSound : Type 0 where
+  pub opened : (row : ℕ) → sound (openOf row .chart) ≡ true
+  pub charted : (c : Chart) (week : ℕ) (numbers : List ℤ) (room : ℕ) → sound c ≡ true → sound (resultOf c week numbers room .chart) ≡ true
+
+-- an opening answers 1 exactly where the row doesn't exist
+pub record OpenedExactly : Type 0 where
+  pub opened : (row : ℕ) → rowExists row ≡ true → openSays (openOf row .answer) .number ≡ none
+  pub refused : (row : ℕ) → rowExists row ≡ false → openSays (openOf row .answer) .number ≡ some 1
+
+-- a refused call writes nothing and hands back the chart
+pub record RefusedUntouched : Type 0 where
+  pub chart : (c : Chart) (week : ℕ) (numbers : List ℤ) (buffer : List ℕ) (n : ℕ)
+      → chartSays (chartSetOf c week numbers buffer .result .answer) .number ≡ some n → chartSetOf c week numbers buffer .result .chart ≡ c
+  pub buffer : (c : Chart) (week : ℕ) (numbers : List ℤ) (buffer : List ℕ) (n : ℕ)
+      → chartSays (chartSetOf c week numbers buffer .result .answer) .number ≡ some n → chartSetOf c week numbers buffer .buffer ≡ buffer
+
+-- a line has at most 40 bytes, so a buffer that isn't refused holds it
+pub record LineFits : Type 0 where
+  pub forty : (c : Chart) (week : ℕ) (numbers : List ℤ) (room : ℕ) → length (bytesOf (resultOf c week numbers room .answer)) ≤ 40
+  pub inside : (c : Chart) (week : ℕ) (numbers : List ℤ) (room : ℕ) → length (bytesOf (resultOf c week numbers room .answer)) ≤ room
+
+-- after a set the newest four are held
+abbrev pub NewestFour : Type 0
+NewestFour = (c : Chart) (week : ℕ) (s : ChartSet) → pastOf (nextChart c week s) ≡ take 4 (s ∷ pastOf c)
+
+-- the checks stand in the order of their numbers, so the first that applies has the lowest applying number
+abbrev pub Rising : List ℕ → Type 0
+Rising [] = Unit {0}
+Rising (n ∷ []) = Unit {0}
+Rising (m ∷ n ∷ ns) = (m < n) × Rising (n ∷ ns)
+
+abbrev pub LowestNumber : Type 0
+LowestNumber = (c : Chart) (week : ℕ) (numbers : List ℤ) (room : ℕ) → Rising (map (λ check. numberOf (check .refusal)) (checksOf c week numbers room))

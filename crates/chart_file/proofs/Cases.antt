@@ -1,0 +1,22 @@
+-- The worked texts print what they say.
+use mathlib.Core.Path.{_≡_, refl}
+use mathlib.Core.List.{map}
+use Rattle.decimal.specs.Show.{shown, show, showSigned}
+use Rattle.chart_lines.specs.Decimal.{isDigit, digits, number, numberAt}
+use Rattle.chart_lines.specs.Line.{ended, field, then, lineAt}
+use Rattle.chart_lines.specs.Names.{startsWith}
+use Rattle.chart_sets.specs.Sets.{badWeek, badSize, outside, badResult, setOf}
+use Rattle.chart_sets.specs.Soundness.{soundSet}
+use Rattle.chart_rules.specs.Rows.{limitsOf}
+use Rattle.chart_rules.specs.Rules.{absolute, atOrAbove, atOrBelow, tolerance, rangeTolerance, above, below, oneSide, sixtieths, runBy, run}
+use Rattle.chart.specs.Charts.{sound, nextChart}
+use Rattle.chart.specs.Lines.{valuesOf, flagBytes, lineOf}
+use Rattle.chart.specs.Calls.{refusalOf, decided, accepted, resultOf, bytesOf as lineBytes}
+use Rattle.chart_judge.specs.Judging.{linesFrom, linesAt, isNext, isStart}
+use Rattle.chart_file.specs.Gathering.{finished, closed, kept, setsOf}
+use Rattle.chart_file.specs.Texts.{chartAll, textSets, textLines, outputOf, answerOf, refusalBytes, spoken, printed}
+use Rattle.chart_file.specs.Cases.{texts}
+
+pub texts-hold : map (λ c. c .gives) texts ≡ map (λ c. c .says) texts
+unfolding shown show showSigned isDigit digits number numberAt ended field then lineAt startsWith badSize outside badResult setOf soundSet limitsOf absolute atOrAbove atOrBelow tolerance rangeTolerance above below oneSide sixtieths runBy run sound nextChart valuesOf flagBytes lineOf badWeek refusalOf decided accepted resultOf lineBytes linesFrom linesAt isNext isStart finished closed kept setsOf chartAll textSets textLines outputOf answerOf refusalBytes spoken printed texts
+texts-hold = refl

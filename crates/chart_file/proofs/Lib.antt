@@ -1,0 +1,5 @@
+pub mod Gathering
+pub mod Answering
+pub mod Charted
+pub mod Exact
+pub mod Cases

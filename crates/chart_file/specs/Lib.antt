@@ -1,0 +1,5 @@
+pub mod Gathering
+pub mod Texts
+pub mod Answers
+pub mod Laws
+pub mod Cases

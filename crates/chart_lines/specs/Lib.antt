@@ -1,0 +1,4 @@
+pub mod Decimal
+pub mod Line
+pub mod Names
+pub mod Laws

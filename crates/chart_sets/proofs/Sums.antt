@@ -1,0 +1,119 @@
+-- The sums of a set: its differences, their tally, their bounds.
+use mathlib.Core.Path.{_≡_, refl, sym, ap, _∙_}
+use mathlib.Core.Bool.{false, _||_}
+use mathlib.Core.List.{List, [], _∷_, map, map-id}
+use Prim.Native.Nat.{ℕ, zero, suc, _+_, _*_, _/_, _%_, _≤_, _<_}
+use native.Mathlib.Omega.{arith}
+use lib.IntN.{ℤ, pos, _+ℤ_, _-ℤ_, +ℤ-assoc, +ℤ-idr}
+use lib.ListN.{length, getD}
+use lib.Signed.{ltZ}
+use lib.Dec.{eqb, leb, ltb}
+use borrow.Author.Tests.{leb-false, ltb-false, eqb-false}
+use Rattle.whole.specs.Parts.{Within}
+use Rattle.whole.specs.Lists.{total, largerOf, smallerOf, largest, smallest}
+use Rattle.whole.specs.declared.Int.{Int}
+use Rattle.whole.proofs.PartLaws.{less-no, diff, sum, either}
+use Rattle.whole.proofs.ListLaws.{Each, largerBy, smallerBy, largest-fold, smallest-fold}
+use Rattle.whole.proofs.Tests.{or-none}
+use Rattle.whole.proofs.Fold.{fold}
+use Rattle.chart_sets.specs.Sets.{badWeek, badSize, outside, badResult, differences}
+use Rattle.chart_sets.specs.Tallies.{stepOf}
+use Rattle.chart_sets.specs.declared.Tally.{Tally}
+
+-- number 19 does not apply
+pub week-facts : (last week : ℕ) → badWeek last week ≡ false → (last < week) × (week ≤ 9999)
+unfolding badWeek
+week-facts last week e = let p = or-none (leb week last) (ltb 9999 week) e in (leb-false week last (p .0), ltb-false 9999 week (p .1))
+
+-- number 20 does not apply
+pub size-facts : (n : ℕ) → badSize n ≡ false → (2 ≤ n) × (n ≤ 10) × (n % 2 ≡ 0)
+unfolding badSize
+size-facts n e =
+    let p = or-none (eqb n 0 || ltb 10 n) (eqb (n % 2) 1) e in
+    let q = or-none (eqb n 0) (ltb 10 n) (p .0) in
+    let zero : n ≡ 0 → ⊥ = eqb-false n 0 (q .0) in
+    let odd : n % 2 ≡ 1 → ⊥ = eqb-false (n % 2) 1 (p .1) in
+    (omega arith, ltb-false 10 n (q .1), omega arith)
+
+-- number 21 does not apply
+inside : (z : ℤ) → outside z ≡ false → Within 0 10000 z
+unfolding outside
+inside z e =
+    let p = or-none (ltZ z (pos 0)) (ltZ (pos 10000) z) e in
+    omega (arith, less-no z (pos 0) (p .0), less-no (pos 10000) z (p .1), either z)
+
+pub each-inside : (l : List ℤ) → badResult l ≡ false → Each 0 10000 l
+unfolding badResult
+each-inside [] e = tt
+each-inside (z ∷ l) e = let p = or-none (outside z) (badResult l) e in (inside z (p .0), each-inside l (p .1))
+
+-- ---- differences
+within-diff : (a b : ℤ) → Within 0 10000 a → Within 0 10000 b → Within 10000 10000 (a -ℤ b)
+within-diff a b h k = omega (arith, diff a b)
+
+pub each-diff : (l : List ℤ) → Each 0 10000 l → Each 10000 10000 (differences l)
+each-diff [] h = tt
+each-diff (a ∷ []) h = tt
+each-diff (a ∷ b ∷ l) h = (within-diff a b (h .0) (h .1 .0), each-diff l (h .1 .1))
+
+pub diff-length : (l : List ℤ) → length (differences l) ≡ length l / 2
+diff-length [] = omega arith
+diff-length (a ∷ []) = omega arith
+diff-length (a ∷ b ∷ l) = omega (arith, diff-length l)
+
+pub diff-at : (k : ℕ) (l : List ℤ) → 2 * k + 1 < length l → getD l (2 * k) (pos 0) -ℤ getD l (2 * k + 1) (pos 0) ≡ getD (differences l) k (pos 0)
+diff-at k [] h = absurd (omega arith)
+diff-at k (a ∷ []) h = absurd (omega arith)
+diff-at zero (a ∷ b ∷ l) h = refl
+diff-at (suc k) (a ∷ b ∷ l) h =
+    let e : 2 * suc k ≡ suc (suc (2 * k)) = omega arith in
+    let f : 2 * suc k + 1 ≡ suc (suc (2 * k + 1)) = omega arith in
+    (λ i. getD (a ∷ b ∷ l) (e i) (pos 0) -ℤ getD (a ∷ b ∷ l) (f i) (pos 0)) ∙ diff-at k l (omega arith)
+
+-- ---- the tally of some differences
+pub tally-is : (t : Tally) {d e : ℤ} (s h l : Int) → s .z ≡ t .sum .z +ℤ d → h .z ≡ largerOf (t .high .z) d → l .z ≡ smallerOf (t .low .z) d → d ≡ e
+    → _≡_ {A = Tally} (record { sum = s; high = h; low = l }) (stepOf t e)
+unfolding stepOf
+tally-is t s h l p q r x =
+    (λ i. record { sum = record { z = p i }; high = record { z = q i }; low = record { z = r i } })
+    ∙ ap (stepOf t) x
+
+pub tally-sum : (t : Tally) (ds : List ℤ) → fold stepOf t ds .sum .z ≡ t .sum .z +ℤ total ds
+unfolding fold stepOf
+tally-sum t [] = sym (+ℤ-idr (t .sum .z))
+tally-sum t (d ∷ ds) = tally-sum (stepOf t d) ds ∙ +ℤ-assoc (t .sum .z) d (total ds)
+
+-- a difference as it stands
+same : ℤ → ℤ
+same z = z
+
+tally-high : (t : Tally) (ds : List ℤ) → fold stepOf t ds .high .z ≡ fold (largerBy same) (t .high .z) ds
+unfolding fold stepOf same
+tally-high t [] = refl
+tally-high t (d ∷ ds) = tally-high (stepOf t d) ds
+
+tally-low : (t : Tally) (ds : List ℤ) → fold stepOf t ds .low .z ≡ fold (smallerBy same) (t .low .z) ds
+unfolding fold stepOf same
+tally-low t [] = refl
+tally-low t (d ∷ ds) = tally-low (stepOf t d) ds
+
+map-same : (l : List ℤ) → map same l ≡ l
+unfolding same
+map-same l = map-id l
+
+module _ (t : Tally) (ds : List ℤ) (some : 0 < length ds) where
+  -- from the first difference on, over all of them
+  pub tally-largest : t .high .z ≡ getD ds 0 (pos 0) → fold stepOf t ds .high .z ≡ largest ds
+  unfolding same
+  tally-largest e =
+      tally-high t ds ∙ ap (λ (z : ℤ). fold (largerBy same) z ds) e ∙ largest-fold same (pos 0) ds some ∙ ap largest (map-same ds)
+
+  pub tally-smallest : t .low .z ≡ getD ds 0 (pos 0) → fold stepOf t ds .low .z ≡ smallest ds
+  unfolding same
+  tally-smallest e =
+      tally-low t ds ∙ ap (λ (z : ℤ). fold (smallerBy same) z ds) e ∙ smallest-fold same (pos 0) ds some ∙ ap smallest (map-same ds)
+
+pub step-sum : (k : ℕ) (t : Tally) (d : ℤ) → Within (k * 10000) (k * 10000) (t .sum .z) → Within 10000 10000 d
+    → Within ((k + 1) * 10000) ((k + 1) * 10000) (stepOf t d .sum .z)
+unfolding stepOf
+step-sum k t d h w = omega (arith, sum (t .sum .z) d)

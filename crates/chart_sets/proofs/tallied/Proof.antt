@@ -1,0 +1,179 @@
+-- `chart_sets::tallied` meets its contract.
+use Rattle.chart_sets.specs.declared.Tally.{Tally}
+use Rattle.whole.proofs.ListLaws.{each-at}
+use lib.IntN.{+ℤ-idl, pos, _-ℤ_}
+use Rattle.chart_sets.proofs.Sums.{each-diff, size-facts, each-inside, diff-at, diff-length, step-sum, tally-sum, tally-largest, tally-smallest}
+use mathlib.Core.Path.{_≡_, refl, ap, _∙_}
+use native.Mathlib.Omega.{arith}
+use Prim.Native.Nat.{ℕ, _+_, _-_, _*_, _/_, _%_, _≤_, _<_}
+use lib.ListN.{length, getD}
+use Rattle.whole.specs.Parts.{Within}
+use Rattle.whole.proofs.Read.{back-in}
+use Rattle.whole.proofs.Fold.{Going, going-start, going-step, going-done}
+use Rattle.chart_sets.specs.Sets.{differences}
+use Rattle.chart_sets.specs.Tallies.{stepOf}
+use Rattle.chart_sets.proofs.tallied.Statement.{statement}
+use Rattle.chart_sets.proofs.tallied.Tie as tie
+
+abbrev Inv-loop : tie.InvT-loop
+Inv-loop numbers count t₀ k₀ t k =
+    (k ≤ count) × (count ≡ length numbers / 2) × (Within (k * 10000) (k * 10000) (t .sum .z)) × Going stepOf t₀ (differences numbers) k t
+
+abbrev μ-loop : tie.MeasureT-loop
+μ-loop numbers count t₀ k₀ t k = count - k
+
+sizes : (c : tie.Start Inv-loop μ-loop) → (2 ≤ length (c .args .numbers .now)) × (length (c .args .numbers .now) ≤ 10) × (length (c .args .numbers .now) % 2 ≡ 0)
+sizes c = size-facts _ (c .pre .0)
+
+-- a result, as it is read
+value : (c : tie.Start Inv-loop μ-loop) (i : ℕ) → Within 0 10000 (getD (c .args .numbers .now) i (pos 0))
+value c i = each-at 0 10000 (c .args .numbers .now) i (each-inside _ (c .pre .1))
+
+shared-slice-copy-out-t7 : tie.Need-shared-slice-copy-out-t7 Inv-loop μ-loop
+shared-slice-copy-out-t7 c = omega (arith, sizes c)
+
+shared-slice-copy-out-t10 : tie.Need-shared-slice-copy-out-t10 Inv-loop μ-loop
+shared-slice-copy-out-t10 c = omega (arith, sizes (c .before))
+
+sub-requires : tie.Need-sub-requires Inv-loop μ-loop
+sub-requires c κs =
+    let s = c .before .before in
+    let z = sizes s in
+    let a = value s 0 in
+    let b = value s 1 in
+    let x = back-in a tt tt in
+    let y = back-in b tt tt in
+    omega arith
+
+loop-holds : tie.Need-loop-holds Inv-loop μ-loop
+loop-holds c =
+    let s = c .before .before .before in
+    let z = sizes s in
+    let a = value s 0 in
+    let b = value s 1 in
+    let x = back-in a tt tt in
+    let y = back-in b tt tt in
+    (omega arith, refl, omega arith, going-start _ _ _)
+
+mul-t14 : tie.Need-mul-t14 Inv-loop μ-loop
+mul-t14 c =
+    let s = c .before .before .before .before .before in
+    let z = sizes s in
+    omega arith
+
+mul-t15 : tie.Need-mul-t15 Inv-loop μ-loop
+mul-t15 c =
+    let s = c .before .before .before .before .before in
+    let z = sizes s in
+    omega arith
+
+shared-slice-copy-out-t17 : tie.Need-shared-slice-copy-out-t17 Inv-loop μ-loop
+shared-slice-copy-out-t17 c =
+    let s = c .before .before .before .before .before in
+    let z = sizes s in
+    omega arith
+
+mul-t19 : tie.Need-mul-t19 Inv-loop μ-loop
+mul-t19 c =
+    let s = c .before .before .before .before .before .before in
+    let z = sizes s in
+    omega arith
+
+add-t20 : tie.Need-add-t20 Inv-loop μ-loop
+add-t20 c =
+    let s = c .before .before .before .before .before .before in
+    let z = sizes s in
+    omega arith
+
+mul-t21 : tie.Need-mul-t21 Inv-loop μ-loop
+mul-t21 c =
+    let s = c .before .before .before .before .before .before in
+    let z = sizes s in
+    omega arith
+
+shared-slice-copy-out-t23 : tie.Need-shared-slice-copy-out-t23 Inv-loop μ-loop
+shared-slice-copy-out-t23 c =
+    let s = c .before .before .before .before .before .before in
+    let z = sizes s in
+    omega arith
+
+step-requires : tie.Need-step-requires Inv-loop μ-loop
+step-requires c κs =
+    let s = c .before .before .before .before .before .before .before in
+    let z = sizes s in
+    let k = c .before .before .before .loop .k in
+    let l = c .before .before .before .loop .inv in
+    let a = value s (2 * k) in
+    let b = value s (2 * k + 1) in
+    let x = back-in a tt tt in
+    let y = back-in b tt tt in
+    (omega arith, (omega arith, omega arith))
+
+add-k : tie.Need-add-k Inv-loop μ-loop
+add-k c =
+    let s = c .before .before .before .before .before .before .before .before in
+    let z = sizes s in
+    omega arith
+
+loop-less : tie.Need-loop-less Inv-loop μ-loop
+loop-less c = omega arith
+
+loop-again : tie.Need-loop-again Inv-loop μ-loop
+loop-again c =
+    let s = c .before .before .before .before .before .before .before .before in
+    let z = sizes s in
+    let numbers = s .args .numbers .now in
+    let k = c .before .before .before .before .loop .k in
+    let t = c .before .before .before .before .loop .t in
+    let l = c .before .before .before .before .loop .inv in
+    let x = back-in (value s (2 * k)) tt tt in
+    let y = back-in (value s (2 * k + 1)) tt tt in
+    let more : k < length numbers / 2 = c .before .before .before .loop-test .taken in
+    let e : c .step .result ≡ stepOf t (getD (differences numbers) k (pos 0)) =
+    c .step .ensures ∙ ap (stepOf t) ((λ i. x .is i -ℤ y .is i) ∙ diff-at k numbers (omega arith)) in
+    let w = each-at 10000 10000 (differences numbers) k (each-diff numbers (each-inside numbers (s .pre .1))) in
+    let n = diff-length numbers in
+    (omega arith, l .1, rw e (step-sum k t _ (l .2) w), rw e (going-step stepOf _ (differences numbers) (pos 0) k t (omega arith) (l .3)))
+
+returns : tie.Need-returns Inv-loop μ-loop
+returns c =
+    let s = c .before .before .before .before .before in
+    let z = sizes s in
+    let numbers = s .args .numbers .now in
+    let ds = differences numbers in
+    let k = c .before .loop .k in
+    let l = c .before .loop .inv in
+    let x = back-in (value s 0) tt tt in
+    let y = back-in (value s 1) tt tt in
+    let n = diff-length numbers in
+    let first = c .before .before .sub .ensures .is ∙ (λ i. x .is i -ℤ y .is i) ∙ diff-at 0 numbers (omega arith) in
+    let done : length numbers / 2 ≤ k = c .loop-test .left in
+    let g = going-done stepOf _ ds k (c .before .loop .t) (omega arith) (l .3) in
+    record {
+      sum = ap (λ (t : Tally). t .sum .z) g ∙ tally-sum _ ds ∙ +ℤ-idl _;
+      high = ap (λ (t : Tally). t .high .z) g ∙ tally-largest _ ds (omega arith) first;
+      low = ap (λ (t : Tally). t .low .z) g ∙ tally-smallest _ ds (omega arith) first;
+    }
+
+pub tallied-spec : {M : Type 1} → statement M
+tallied-spec =
+    tie.close
+    (tie.spec
+    Inv-loop
+    μ-loop
+    shared-slice-copy-out-t7
+    shared-slice-copy-out-t10
+    sub-requires
+    loop-holds
+    mul-t14
+    mul-t15
+    shared-slice-copy-out-t17
+    mul-t19
+    add-t20
+    mul-t21
+    shared-slice-copy-out-t23
+    step-requires
+    add-k
+    loop-less
+    loop-again
+    returns)

@@ -1,0 +1,146 @@
+// A set of a control chart: its pairs of results judged, and turned into count, sum and range.
+use whole::Int;
+use whole::flags;
+ghost use mathlib.Core.Path.{_≡_};
+ghost use mathlib.Core.Bool.{false};
+ghost use lib.IntN.{_-ℤ_};
+ghost use lib.ListN.{length};
+ghost use Rattle.whole.specs.Parts.{Within};
+ghost use Rattle.chart_sets.specs.Sets.{badWeek, badSize, outside as outsideOf, badResult, setOf};
+ghost use Rattle.chart_sets.specs.Soundness.{soundSet};
+ghost use Rattle.chart_sets.specs.Tallies.{stepOf, Tallied};
+
+// A set: the number of its pairs, the sum of its differences, the largest difference minus the smallest.
+pub struct ChartSet {
+    pub count: u32,
+    pub sum: i32,
+    pub range: u32,
+}
+
+// The sum, the largest and the smallest of some differences.
+struct Tally {
+    sum: Int,
+    high: Int,
+    low: Int,
+}
+
+// A set's sum over the border from i32.
+pub fn sum_of(s: ChartSet) -> Int
+    ensures { λ r. ⌜ r .z ≡ s .sum ⌝ }
+{
+    Int { z: s.sum }
+}
+
+// A result outside 0..10000.
+fn outside(x: Int) -> bool
+    ensures { λ r. ⌜ r ≡ outsideOf (x .z) ⌝ }
+{
+    flags::either(
+        whole::less(x, Int { z: 0 }),
+        whole::less(Int { z: 10000 }, x),
+    )
+}
+
+// Number 21: some result is outside.
+pub fn bad_result(numbers: &[i32]) -> bool
+    ensures { λ r. ⌜ r ≡ badResult (now (numbers .entry)) ⌝ }
+{
+    let mut bad = false;
+    let mut i = 0;
+    while i < numbers.len() {
+        bad = flags::either(bad, outside(Int { z: numbers[i] }));
+        i += 1;
+    }
+    bad
+}
+
+// Number 20: n numbers are no set.
+pub fn bad_size(n: usize) -> bool
+    ensures { λ r. ⌜ r ≡ badSize n ⌝ }
+{
+    flags::either(flags::either(n == 0, 10 < n), n % 2 == 1)
+}
+
+// Number 19: the week isn't above the chart's last or is above 9999.
+pub fn bad_week(last: u32, week: u32) -> bool
+    ensures { λ r. ⌜ r ≡ badWeek last week ⌝ }
+{
+    flags::either(week <= last, 9999 < week)
+}
+
+// A tally with one difference more.
+fn step(t: Tally, a: Int, b: Int) -> Tally
+    requires { ⌜ Within 1000000 1000000 (t .sum .z) ⌝ }
+    requires { ⌜ (Within 0 10000 (a .z)) × (Within 0 10000 (b .z)) ⌝ }
+    ensures { λ r. ⌜ r ≡ stepOf t (a .z -ℤ b .z) ⌝ }
+{
+    let d = whole::sub(a, b);
+    let sum = whole::add(t.sum, d);
+    let high = whole::larger(t.high, d);
+    let low = whole::smaller(t.low, d);
+    Tally { sum, high, low }
+}
+
+// The differences of all pairs.
+fn tallied(numbers: &[i32]) -> Tally
+    requires { ⌜ (badSize (length (now numbers)) ≡ false) × (badResult (now numbers) ≡ false) ⌝ }
+    ensures { λ r. ⌜ Tallied (now (numbers .entry)) r ⌝ }
+{
+    let first = whole::sub(Int { z: numbers[0] }, Int { z: numbers[1] });
+    let count = numbers.len() / 2;
+    let mut t = Tally {
+        sum: Int { z: 0 },
+        high: first,
+        low: first,
+    };
+    let mut k = 0;
+    while k < count {
+        t = step(
+            t,
+            Int { z: numbers[2 * k] },
+            Int {
+                z: numbers[2 * k + 1],
+            },
+        );
+        k += 1;
+    }
+    t
+}
+
+// A set from its parts.
+fn made(count: u32, sum: Int, range: u32) -> ChartSet
+    ensures { λ r. ⌜ r ≡ record { count = count; sum = sum .z; range = range } ⌝ }
+{
+    ChartSet {
+        count,
+        sum: sum.z,
+        range,
+    }
+}
+
+// The set of some results, original and monitor in turn, to which neither 20 nor 21 applies.
+pub fn set_of(numbers: &[i32]) -> ChartSet
+    requires { ⌜ (badSize (length (now numbers)) ≡ false) × (badResult (now numbers) ≡ false) ⌝ }
+    ensures { λ r. ⌜ r ≡ setOf (now (numbers .entry)) ⌝ }
+{
+    let t = tallied(numbers);
+    let range = whole::size(whole::sub(t.high, t.low));
+    made((numbers.len() / 2) as u32, t.sum, range)
+}
+
+// A held set is sound.
+pub fn sound_set(s: ChartSet) -> bool
+    ensures { λ r. ⌜ r ≡ soundSet s ⌝ }
+{
+    let count = s.count;
+    if count < 1 {
+        return false;
+    }
+    if 5 < count {
+        return false;
+    }
+    flags::both(
+        whole::size_at_most(sum_of(s), 10000 * count),
+        s.range <= 20000,
+    )
+}

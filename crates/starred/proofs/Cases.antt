@@ -1,0 +1,26 @@
+-- Each starred case comes out as paper 01 says, by computation.
+use mathlib.Core.Path.{_≡_, refl}
+use mathlib.Core.List.{map}
+use lib.Ieee.{ofBits}
+use Rattle.reading.specs.Reading.{unitsOf, inRange, readingOf, answerOf}
+use Rattle.rules.specs.Rows.{rowOf, samples, standardBasis, lineCount, limitsOf}
+use Rattle.rules.specs.Readings.{scanFits, lineFloat}
+use Rattle.rules.specs.Sheets.{samplesOf, wrongNumber, spread, closer, closestPair, thirdDue, usedPair, firstDeviation, againRound, finalDeviation, keptSamples, setOf, sheetChecks}
+use Rattle.rules.specs.Lines.{validOn, sameSide, averagesDue, testsBy, roundedAverage, verdictOf}
+use Rattle.rules.specs.Markets.{correctedValue, tooHigh, tenths, tenthsAt, marketChecks, certificateOf}
+use Rattle.rules.specs.Judging.{sheetNumbers, marketNumbers, sheetSet, sheetVerdict}
+use Rattle.rules.specs.Soundness.{soundLine, sound}
+use Rattle.rules.specs.Stations.{sheetStation, outcomeOf, sheetOf, marketOf}
+use Rattle.chart_sets.specs.Sets.{badWeek, badSize, outside, badResult, setOf as chartSetOf}
+use Rattle.chart_sets.specs.Soundness.{soundSet}
+use Rattle.chart_rules.specs.Rows as chartRows
+use Rattle.chart_rules.specs.Rules.{absolute, atOrAbove, atOrBelow, tolerance, rangeTolerance, above, below, oneSide, sixtieths, runBy, run}
+use Rattle.chart.specs.Charts.{sound as soundChart, nextChart}
+use Rattle.chart.specs.Lines.{valuesOf}
+use Rattle.chart.specs.Calls.{refusalOf, decided, accepted, resultOf}
+use Rattle.rules.specs.Cases.{Case}
+use Rattle.starred.specs.Cases.{starred}
+
+pub starred-hold : map (λ (c : Case). c .gives) starred ≡ map (λ (c : Case). c .says) starred
+unfolding starred ofBits unitsOf inRange readingOf answerOf rowOf samples standardBasis lineCount limitsOf scanFits lineFloat samplesOf wrongNumber spread closer closestPair thirdDue usedPair firstDeviation againRound finalDeviation keptSamples setOf sheetChecks validOn sameSide averagesDue testsBy roundedAverage verdictOf correctedValue tooHigh tenths tenthsAt marketChecks certificateOf sheetNumbers marketNumbers sheetSet sheetVerdict soundLine sound sheetStation outcomeOf sheetOf marketOf badWeek badSize outside badResult chartSetOf soundSet chartRows.limitsOf absolute atOrAbove atOrBelow tolerance rangeTolerance above below oneSide sixtieths runBy run soundChart nextChart valuesOf refusalOf decided accepted resultOf
+starred-hold = refl
