@@ -1,0 +1,38 @@
+-- Sets and tests within their ranges.
+use mathlib.Core.Path.{_≡_, subst⁻¹}
+use Prim.Native.Nat.{ℕ, _+_, _*_, _≤_}
+use native.Mathlib.Nat.{le-trans, mul-le-mul-left, mul-le-mul-right}
+use native.Mathlib.Omega.{arith}
+use mathlib.Core.List.{List}
+use lib.Dec.{T, leb, leb→le}
+use lib.IntN.{ℤ}
+use Rattle.rules.specs.Lines.{testOf}
+use Rattle.rules.specs.declared.Set.{Set}
+use Rattle.rules.specs.declared.Test.{Test}
+use Rattle.rules.specs.declared.PastSet.{PastSet}
+use Rattle.averages.specs.Ranges.{SetsOf, TestFits, Held, Joined}
+
+pub product-le : (t : Test) → TestFits t → t .limit * t .count ≤ 60000
+product-le t h = le-trans (mul-le-mul-left (t .limit) (h .sets .few)) (mul-le-mul-right 60 (h .limit))
+
+-- fewer sets are in the range of more
+pub of-more : (j k : ℕ) {sum : ℤ} {count : ℕ} → T (leb j k) → SetsOf j sum count → SetsOf k sum count
+of-more j k t s =
+    let h = leb→le j k t in
+    let a = mul-le-mul-right 132000 h in
+    let b = mul-le-mul-right 12 h in
+    record { within = omega arith; few = omega arith }
+
+-- one set more
+pub join-fits : (k : ℕ) (set : Set) (p : PastSet) {r : Set} → SetsOf k (set .sum) (set .count) → SetsOf 1 (p .sum) (p .count) → Joined set p r → SetsOf (k + 1) (r .sum) (r .count)
+join-fits k set p s q j = record { within = omega arith; few = omega arith }
+
+pub join-some : (set : Set) (p : PastSet) {r : Set} → 1 ≤ set .count → Joined set p r → 1 ≤ r .count
+join-some set p h j = omega arith
+
+-- a test made of sets
+pub test-fits : (limit k : ℕ) (set : Set) {t : Test} → t ≡ testOf limit set → limit ≤ 1000 → T (leb k 5) → SetsOf k (set .sum) (set .count) → 1 ≤ set .count → TestFits t
+test-fits limit k set e h t s c = subst⁻¹ TestFits e (record { limit = h; sets = of-more k 5 t s; some = c })
+
+pub held-less : {j k : ℕ} {past : List PastSet} → j ≤ k → Held k past → Held j past
+held-less {j} {k} h e = record { each = λ i l. e .each i (omega arith) }

@@ -1,0 +1,44 @@
+-- Paper 01, "A line between sheets": the averages due in the order in which they are tested, and the average rounded.
+use mathlib.Core.Bool.{cond}
+use mathlib.Core.List.{List, [], _∷_}
+use mathlib.Core.Option.{Option, none, some}
+use Prim.Native.Nat.{ℕ, _+_}
+use lib.Dec.{leb}
+use lib.IntN.{ℤ}
+use Rattle.rules.specs.Lines.{testOf, exceeded, plus, fiveTest, firstExceeded, roundedAverage}
+use Rattle.rules.specs.declared.Limits.{Limits}
+use Rattle.rules.specs.declared.Set.{Set}
+use Rattle.rules.specs.declared.Test.{Test}
+use Rattle.rules.specs.declared.PastSet.{PastSet}
+use Rattle.averages.specs.declared.answer.Found.{Found}
+use Rattle.averages.specs.declared.answer.Found.the-variants.{Exceeded, Nothing}
+
+abbrev pub foundOf : Option Test → Found
+foundOf none = Nothing
+foundOf (some t) = Exceeded t
+
+-- a test, and what follows where it isn't exceeded
+abbrev pub tried : Test → Found → Found
+tried t rest = cond (exceeded t) (Exceeded t) rest
+
+-- the three together where two are valid, and then the five
+unfoldable pub fromThree : Limits → Set → List PastSet → Found
+fromThree limits set [] = Nothing
+fromThree limits set (p ∷ []) = Nothing
+fromThree limits set (p ∷ q ∷ []) = tried (testOf (limits .three) (plus (plus set p) q)) Nothing
+fromThree limits set (p ∷ q ∷ r ∷ []) = tried (testOf (limits .three) (plus (plus set p) q)) Nothing
+fromThree limits set (p ∷ q ∷ r ∷ s ∷ older) =
+    tried (testOf (limits .three) (plus (plus set p) q)) (foundOf (firstExceeded (fiveTest limits set p q r s)))
+
+-- the two together where one is valid, and then the three
+unfoldable pub fromTwo : Limits → Set → List PastSet → Found
+fromTwo limits set [] = Nothing
+fromTwo limits set (p ∷ ps) = tried (testOf (limits .two) (plus set p)) (fromThree limits set (p ∷ ps))
+
+-- one more valid set, where it is at most 14 days old
+abbrev pub oneMore : ℕ → ℕ → PastSet → ℕ
+oneMore day k p = cond (leb day (p .day + 14)) (k + 1) k
+
+-- S / N rounded; a test's limit has no part in it
+abbrev pub averageOf : ℤ → ℕ → ℤ
+averageOf sum count = roundedAverage (record { limit = 0; sum = sum; count = count })

@@ -1,0 +1,53 @@
+-- The ranges of S and N in which nothing wraps (paper 01, "Refused calls": N is at most twice six samples, |S| at most 11000 times N).
+use mathlib.Core.Path.{_≡_}
+use mathlib.Core.List.{List}
+use Prim.Native.Nat.{ℕ, _+_, _*_, _≤_, _<_}
+use lib.IntN.{ℤ}
+use lib.ListN.{getD}
+use Rattle.whole.specs.Parts.{up, down, Within}
+use Rattle.rules.specs.Lines.{plus}
+use Rattle.rules.specs.Held.{noSet}
+use Rattle.rules.specs.declared.Limits.{Limits}
+use Rattle.rules.specs.declared.Set.{Set}
+use Rattle.rules.specs.declared.Test.{Test}
+use Rattle.rules.specs.declared.PastSet.{PastSet}
+use Rattle.averages.specs.declared.answer.Found.{Found}
+use Rattle.averages.specs.declared.answer.Found.the-variants.{Exceeded, Nothing}
+
+-- S and N of at most k sets together
+pub record SetsOf (k : ℕ) (sum : ℤ) (count : ℕ) : Type 0 where
+  pub within : Within (k * 132000) (k * 132000) sum
+  pub few : count ≤ k * 12
+
+-- a test of at most five sets, of which N is above 0
+pub record TestFits (t : Test) : Type 0 where
+  pub limit : t .limit ≤ 1000
+  pub sets : SetsOf 5 (t .sum) (t .count)
+  pub some : 1 ≤ t .count
+
+abbrev pub FoundFits : Found → Type 0
+FoundFits (Exceeded t) = TestFits t
+FoundFits Nothing = Unit {0}
+
+-- the limits of the averages and of the check
+pub record Limited (l : Limits) : Type 0 where
+  pub one : l .one ≤ 1000
+  pub two : l .two ≤ 1000
+  pub three : l .three ≤ 1000
+  pub five : l .five ≤ 1000
+  pub check : l .check ≤ 1000
+
+pub record PastFits (p : PastSet) : Type 0 where
+  pub set : SetsOf 1 (p .sum) (p .count)
+  pub day : p .day ≤ 99999
+
+-- the first k past sets
+pub record Held (k : ℕ) (past : List PastSet) : Type 0 where
+  pub each : (j : ℕ) → j < k → PastFits (getD past j noSet)
+
+-- S and N of sets and a past set together
+pub record Joined (set : Set) (p : PastSet) (r : Set) : Type 0 where
+  pub is : r ≡ plus set p
+  pub high : up (r .sum) ≤ up (set .sum) + up (p .sum)
+  pub low : down (r .sum) ≤ down (set .sum) + down (p .sum)
+  pub count : r .count ≡ set .count + p .count

@@ -1,0 +1,173 @@
+// The tests of a set's averages (paper 01, "A line between sheets"), and the average by which a line is adjusted.
+mod answer;
+mod sides;
+
+pub use answer::Found;
+use rules::Limits;
+use rules::PastSet;
+use rules::Phase;
+use rules::Set;
+use rules::Test;
+use whole::Int;
+ghost use mathlib.Core.Path.{_≡_};
+ghost use mathlib.Core.List.{[]};
+ghost use Prim.Native.Nat.{_+_, _≤_};
+ghost use lib.ListN.{take, length, getD};
+ghost use Rattle.whole.specs.Parts.{Within};
+ghost use Rattle.rules.specs.Lines.{testOf, exceeded, plus, firstExceeded, fiveTest, averagesDue, testsBy, validOn, checkDueLine};
+ghost use Rattle.rules.specs.Held.{noSet, phaseWord};
+ghost use Rattle.averages.specs.Ranges.{SetsOf, TestFits, FoundFits, Limited, Held, Joined};
+ghost use Rattle.averages.specs.Order.{foundOf, fromTwo, fromThree, oneMore, averageOf};
+
+fn test_of(limit: u32, set: Set) -> Test
+    ensures { λ r. ⌜ r ≡ testOf limit set ⌝ }
+{
+    Test {
+        limit,
+        sum: set.sum,
+        count: set.count,
+    }
+}
+
+// |S| is above the limit times N.
+fn is_exceeded(t: Test) -> bool
+    requires { ⌜ TestFits t ⌝ }
+    ensures { λ r. ⌜ r ≡ exceeded t ⌝ }
+{
+    t.limit * t.count < whole::size(Int { z: t.sum })
+}
+
+// The summed S and N.
+fn plus(set: Set, p: PastSet) -> Set
+    requires { ⌜ (SetsOf 4 (set .sum) (set .count)) × (SetsOf 1 (p .sum) (p .count)) ⌝ }
+    ensures { λ r. ⌜ Joined set p r ⌝ }
+{
+    let sum = whole::add(Int { z: set.sum }, Int { z: p.sum });
+    Set {
+        sum: sum.z,
+        count: set.count + p.count,
+    }
+}
+
+// The five together, where all lie on one side of zero; three is the first three of them.
+fn five_sets(limits: Limits, set: Set, three: Set, past: [PastSet; 4]) -> Found
+    requires { ⌜ (Limited limits) × ((SetsOf 3 (three .sum) (three .count)) × ((1 ≤ three .count) × (Held 4 past))) ⌝ }
+    requires { ⌜ three ≡ plus (plus set (getD past 0 noSet)) (getD past 1 noSet) ⌝ }
+    ensures { λ r. ⌜ (r ≡ foundOf (firstExceeded (fiveTest limits set (getD past 0 noSet) (getD past 1 noSet) (getD past 2 noSet) (getD past 3 noSet)))) × FoundFits r ⌝ }
+{
+    if !sides::on_one_side(set, past) {
+        return Found::Nothing;
+    }
+    let t = test_of(limits.five, plus(plus(three, past[2]), past[3]));
+    if is_exceeded(t) {
+        return Found::Exceeded(t);
+    }
+    Found::Nothing
+}
+
+// The three together where two past sets are valid, and then the five; two is the first two of them.
+fn three_sets(limits: Limits, set: Set, two: Set, k: usize, past: [PastSet; 4]) -> Found
+    requires { ⌜ (Limited limits) × ((SetsOf 2 (two .sum) (two .count)) × ((1 ≤ two .count) × ((k ≤ 4) × (Held k past)))) ⌝ }
+    requires { ⌜ two ≡ plus set (getD past 0 noSet) ⌝ }
+    ensures { λ r. ⌜ (r ≡ fromThree limits set (take k past)) × FoundFits r ⌝ }
+{
+    if k < 2 {
+        return Found::Nothing;
+    }
+    let three = plus(two, past[1]);
+    let t = test_of(limits.three, three);
+    if is_exceeded(t) {
+        return Found::Exceeded(t);
+    }
+    if k < 4 {
+        return Found::Nothing;
+    }
+    five_sets(limits, set, three, past)
+}
+
+// The two together where one past set is valid, and then the three.
+fn two_sets(limits: Limits, set: Set, k: usize, past: [PastSet; 4]) -> Found
+    requires { ⌜ (Limited limits) × ((SetsOf 1 (set .sum) (set .count)) × ((1 ≤ set .count) × ((k ≤ 4) × (Held k past)))) ⌝ }
+    ensures { λ r. ⌜ (r ≡ fromTwo limits set (take k past)) × FoundFits r ⌝ }
+{
+    if k == 0 {
+        return Found::Nothing;
+    }
+    let two = plus(set, past[0]);
+    let t = test_of(limits.two, two);
+    if is_exceeded(t) {
+        return Found::Exceeded(t);
+    }
+    three_sets(limits, set, two, k, past)
+}
+
+// The averages due of a new or open line's set: the set alone, and then the two.
+fn one_set(limits: Limits, set: Set, k: usize, past: [PastSet; 4]) -> Found
+    requires { ⌜ (Limited limits) × ((SetsOf 1 (set .sum) (set .count)) × ((1 ≤ set .count) × ((k ≤ 4) × (Held k past)))) ⌝ }
+    ensures { λ r. ⌜ (r ≡ foundOf (firstExceeded (averagesDue limits set (take k past)))) × FoundFits r ⌝ }
+{
+    let t = test_of(limits.one, set);
+    if is_exceeded(t) {
+        return Found::Exceeded(t);
+    }
+    two_sets(limits, set, k, past)
+}
+
+// The check of a line that is check due.
+fn check(limits: Limits, set: Set) -> Found
+    requires { ⌜ (Limited limits) × ((SetsOf 1 (set .sum) (set .count)) × (1 ≤ set .count)) ⌝ }
+    ensures { λ r. ⌜ (r ≡ foundOf (firstExceeded (testsBy limits checkDueLine set []))) × FoundFits r ⌝ }
+{
+    let t = test_of(limits.check, set);
+    if is_exceeded(t) {
+        return Found::Exceeded(t);
+    }
+    Found::Nothing
+}
+
+// The first test exceeded of those due by the phase, with the newest k past sets valid.
+pub fn first_exceeded(limits: Limits, phase: Phase, set: Set, k: usize, past: [PastSet; 4]) -> Found
+    requires { ⌜ (Limited limits) × ((SetsOf 1 (set .sum) (set .count)) × ((1 ≤ set .count) × ((k ≤ 4) × (Held k past)))) ⌝ }
+    ensures { λ r. ⌜ (r ≡ foundOf (firstExceeded (testsBy limits (phaseWord phase) set (take k past)))) × FoundFits r ⌝ }
+{
+    match phase {
+        Phase::New => one_set(limits, set, k, past),
+        Phase::Open => one_set(limits, set, k, past),
+        Phase::CheckDue => check(limits, set),
+    }
+}
+
+// One more, where the past set is at most 14 days old.
+fn one_more(k: usize, day: u32, p: PastSet) -> usize
+    requires { ⌜ (p .day ≤ 99999) × (k ≤ 4) ⌝ }
+    ensures { λ r. ⌜ (r ≡ oneMore day k p) × (r ≤ k + 1) ⌝ }
+{
+    if day <= p.day + 14 { k + 1 } else { k }
+}
+
+// How many past sets are valid on a day.
+pub fn valid_count(day: u32, held: usize, past: [PastSet; 4]) -> usize
+    requires { ⌜ (held ≤ 4) × (Held held past) ⌝ }
+    ensures { λ r. ⌜ (r ≡ length (validOn day (take held past))) × (r ≤ held) ⌝ }
+{
+    let mut k = 0;
+    let mut i = 0;
+    while i < held {
+        k = one_more(k, day, past[i]);
+        i += 1;
+    }
+    k
+}
+
+// S / N rounded to a whole hundredth, halves away from zero.
+pub fn rounded(sum: Int, count: u32) -> Int
+    requires { ⌜ (SetsOf 5 (sum .z) count) × (1 ≤ count) ⌝ }
+    ensures { λ r. ⌜ (r .z ≡ averageOf (sum .z) count) × Within 2000000 2000000 (r .z) ⌝ }
+{
+    let size = whole::of_u32((2 * whole::size(sum) + count) / (2 * count));
+    if whole::less(sum, Int { z: 0 }) {
+        whole::neg(size)
+    } else {
+        size
+    }
+}

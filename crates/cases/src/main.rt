@@ -1,0 +1,23 @@
+// Paper 01's cases that carry no star, each number of refusal once, and whole lists of calls: each call is run, and its answer printed.
+mod calls;
+mod lists;
+mod paper;
+mod refusals;
+mod say;
+mod sheets;
+
+fn main() {
+    paper::deviations();
+    paper::adjustments();
+    paper::figures();
+    paper::days_and_bases();
+    refusals::stations();
+    refusals::sizes();
+    refusals::sheet_numbers();
+    refusals::lines(refusals::scans());
+    lists::repaired(lists::adjusted());
+    lists::shut_by_none();
+    lists::shut_by_bound();
+    lists::corn();
+    lists::five_sets();
+}

@@ -1,0 +1,118 @@
+-- Which answer a market test gets, by its tests in the order of their numbers.
+use mathlib.Core.Path.{_≡_, refl, ap}
+use mathlib.Core.Bool.{true, false, not}
+use mathlib.Core.List.{_∷_}
+use mathlib.Core.Option.{Option, none, some}
+use Prim.Native.Nat.{ℕ, _+_, _≤_, _<_}
+use lib.Ieee.{Float}
+use lib.IntN.{ℤ, pos, natAbs, _+ℤ_}
+use borrow.Author.Tests.{lt-ltb, le-ltb, not-true}
+use Rattle.whole.proofs.Tests.{to-true}
+use Rattle.reading.specs.Reading.{inRange, answerOf}
+use Rattle.reading.proofs.Laws.{answered, refused}
+use Rattle.reading.specs.declared.answer.Reading.{Reading}
+use Rattle.rules.specs.Rows.{standardBasis, lineCount}
+use Rattle.rules.specs.Refusals.{firstNumber}
+use Rattle.rules.specs.Lines.{Values}
+use Rattle.rules.specs.Markets.{basisOf, correctedValue, isOpen, newestDay, within, tooHigh, marketChecks, certificateOf}
+use Rattle.rules.specs.Judging.{dayCheck, marketNumbers}
+use Rattle.rules.specs.Soundness.{sound, soundCheck}
+use Rattle.rules.specs.Stations.{valuesOf, marketResult, marketOf}
+use Rattle.rules.specs.declared.Refusal.the-variants.{UnsoundStation, BadDay, UnknownLine, WrongScan, BadFloat, BadBasis, BadValue, NotOpen, OldSet, TooHigh}
+use Rattle.rules.specs.declared.Scan.{Scan}
+use Rattle.rules.specs.declared.Basis.{Basis}
+use Rattle.rules.specs.declared.Station.{Station}
+use Rattle.rules.specs.declared.Certificate.{Certificate}
+use Rattle.rules.specs.declared.MarketAnswer.the-variants.{Certified, Refused}
+use Rattle.market.specs.Scans.{pickedOf}
+use Rattle.market.specs.Answers.{answerBy, certificateBy, certifiedOf, valuedOf, testedOf, answeredOf, finished}
+use Rattle.market.specs.declared.scans.Picked.the-variants.{Value, Wrong}
+use Rattle.market.proofs.ScanLaws.{picked-value, picked-wrong}
+
+-- ---- numbers 12 to 14
+
+module _ (a : ℕ) (v : Values) (day : ℕ) (b h : ℤ) where
+  pub not-open : isOpen (v .phase) ≡ false → Refused NotOpen ≡ certifiedOf a v day b h
+  unfolding certifiedOf
+  not-open e = simp e
+
+  module _ (opened : isOpen (v .phase) ≡ true) where
+    pub too-old : newestDay (v .past) + 7 < day → Refused OldSet ≡ certifiedOf a v day b h
+    unfolding certifiedOf
+    too-old g = simp (opened, lt-ltb (newestDay (v .past) + 7) day g)
+
+    module _ (recent : day ≤ newestDay (v .past) + 7) where
+      pub too-high : tooHigh a (natAbs b) (natAbs h) ≡ true → Refused TooHigh ≡ certifiedOf a v day b h
+      unfolding certifiedOf
+      too-high e = simp (opened, le-ltb (newestDay (v .past) + 7) day recent, e)
+
+      pub certified : tooHigh a (natAbs b) (natAbs h) ≡ false → (c : Certificate) → c ≡ certificateBy a v b h → Certified c ≡ certifiedOf a v day b h
+      unfolding certifiedOf
+      certified e c q = simp (opened, le-ltb (newestDay (v .past) + 7) day recent, e) (ap Certified q)
+
+  -- ---- numbers 10 and 11
+
+  pub basis-bad : within 0 5000 b ≡ false → Refused BadBasis ≡ valuedOf a v day b h
+  unfolding valuedOf
+  basis-bad e = simp e
+
+  module _ (basis : within 0 5000 b ≡ true) where
+    pub value-bad : within 0 10000 h ≡ false → Refused BadValue ≡ valuedOf a v day b h
+    unfolding valuedOf
+    value-bad e = simp (basis, e)
+
+    pub both-right : within 0 10000 h ≡ true → certifiedOf a v day b h ≡ valuedOf a v day b h
+    unfolding valuedOf certifiedOf
+    both-right e = simp (basis, e)
+
+-- ---- numbers 8 and 9
+
+module _ (row : ℕ) (v : Values) (day line : ℕ) (scan : Scan) (basis : Basis) where
+  pub scan-wrong : pickedOf row scan line ≡ Wrong → Refused WrongScan ≡ testedOf row v day line scan basis
+  unfolding testedOf marketChecks
+  scan-wrong e = simp (picked-wrong row line scan e)
+
+  pub float-bad : (x : Float) → pickedOf row scan line ≡ Value x → answerOf x ≡ Reading.Refused → Refused BadFloat ≡ testedOf row v day line scan basis
+  unfolding testedOf marketChecks
+  float-bad x e f =
+      let p = picked-value row line scan e in
+      simp (p .0, p .1, not-true (inRange x) (to-true (not (inRange x)) (refused x f)))
+
+  pub float-read : (x : Float) (n : ℕ) → pickedOf row scan line ≡ Value x → answerOf x ≡ Reading.Hundredths n
+      → valuedOf (standardBasis row) v day (basisOf (standardBasis row) basis) (pos n +ℤ v .intercept) ≡ testedOf row v day line scan basis
+  unfolding testedOf marketChecks certificateOf correctedValue valuedOf
+  float-read x n e f =
+      let p = picked-value row line scan e in
+      let a = answered x n f in
+      simp (p .0, p .1, to-true (inRange x) (a .0), a .1)
+
+-- ---- numbers 0, 2 and 3
+
+module _ (s : Station) (day line : ℕ) (scan : Scan) (basis : Basis) where
+  pub answer-unsound : sound s ≡ false → Refused UnsoundStation ≡ answeredOf s day line scan basis
+  unfolding answeredOf
+  answer-unsound e = simp e
+
+  module _ (right : sound s ≡ true) where
+    pub answer-day : dayCheck (s .day) day .applies ≡ true → Refused BadDay ≡ answeredOf s day line scan basis
+    unfolding answeredOf marketNumbers
+    answer-day e = simp (right, e)
+
+    module _ (good : dayCheck (s .day) day .applies ≡ false) where
+      pub answer-line : lineCount (s .row) ≤ line → Refused UnknownLine ≡ answeredOf s day line scan basis
+      unfolding answeredOf marketNumbers
+      answer-line h = simp (right, good, le-ltb line (lineCount (s .row)) h)
+
+      pub answer-tested : line < lineCount (s .row) → testedOf (s .row) (valuesOf s line) day line scan basis ≡ answeredOf s day line scan basis
+      unfolding answeredOf marketNumbers testedOf
+      answer-tested h = simp (right, good, lt-ltb line (lineCount (s .row)) h)
+
+  -- ---- the call
+
+  pub finish-is : finished s day (answeredOf s day line scan basis) ≡ marketOf s day line scan basis
+  unfolding answeredOf marketOf
+  finish-is = go (firstNumber (soundCheck s ∷ marketNumbers (s .row) (s .day) (valuesOf s line) day line scan basis)) (certificateOf (s .row) (valuesOf s line) line scan basis)
+    where
+      go : (o : Option ℕ) (c : Certificate) → finished s day (answerBy o c) ≡ marketResult o s (record { row = s .row; day = day; lines = s .lines }) c
+      go none c = refl
+      go (some number) c = refl

@@ -1,0 +1,3 @@
+-- What the contracts of the market test's functions cite, over the definitions of `rules`.
+pub mod Scans
+pub mod Answers

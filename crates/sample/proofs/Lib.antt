@@ -1,0 +1,2 @@
+pub mod SampleLaws
+pub mod PairLaws

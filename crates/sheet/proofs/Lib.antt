@@ -1,0 +1,3 @@
+pub mod SheetLaws
+pub mod TotalLaws
+pub mod JudgedLaws

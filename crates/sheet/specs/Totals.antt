@@ -1,0 +1,44 @@
+-- Paper 01, rules 3 and 4: the range of the deviations, and S and N of a round.
+use mathlib.Core.Path.{_≡_}
+use mathlib.Core.Bool.{Bool, cond}
+use mathlib.Core.List.{List, map}
+use Prim.Native.Nat.{_+_, _*_, _≤_}
+use lib.IntN.{ℤ, pos, _+ℤ_, _-ℤ_}
+use lib.Signed.{ltZ}
+use lib.ListN.{length}
+use Rattle.whole.specs.Parts.{up, down}
+use Rattle.whole.specs.Lists.{total, largest, smallest}
+use Rattle.rules.specs.Lists.{keep}
+use Rattle.rules.specs.Sheets.{Sample, finalDeviation, kept}
+use Rattle.rules.specs.declared.Limits.{Limits}
+use Rattle.rules.specs.declared.Set.{Set}
+use Rattle.sheet.specs.declared.passes.Tally.{Tally}
+
+-- the largest minus the smallest deviation is above twice the range limit
+abbrev pub wide : Limits → List ℤ → Bool
+wide limits ds = ltZ (pos (2 * limits .range)) (largest ds -ℤ smallest ds)
+
+-- S and N so far
+abbrev pub asSet : Tally → Set
+asSet t = record { sum = t .sum .z; count = t .count }
+
+module _ (limits : Limits) (intercept : ℤ) (round : Bool) where
+  -- a kept sample's deviation joins S, and 2 joins N
+  unfoldable pub tallied : Set → Sample → Set
+  tallied t s =
+      cond (kept limits intercept round s) (record { sum = t .sum +ℤ finalDeviation limits intercept round s; count = t .count + 2 }) t
+
+  -- S and N of the samples that are kept
+  unfoldable pub totals : List Sample → Set
+  totals ss =
+      record {
+        sum = total (map (finalDeviation limits intercept round) (keep (kept limits intercept round) ss));
+        count = 2 * length (keep (kept limits intercept round) ss);
+      }
+
+  -- one sample more, and how far S and N grow
+  pub record Counted (t : Tally) (s : Sample) (r : Tally) : Type 0 where
+    pub is : asSet r ≡ tallied (asSet t) s
+    pub high : up (r .sum .z) ≤ up (t .sum .z) + 25000
+    pub low : down (r .sum .z) ≤ down (t .sum .z) + 25000
+    pub more : r .count ≤ t .count + 2

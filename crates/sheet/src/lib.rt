@@ -1,0 +1,32 @@
+// A sheet's numbers judged by a line's limits and intercept: numbers 4 to 7, each over the whole sheet, else S and N.
+mod answer;
+mod passes;
+
+pub use answer::Judged;
+use rules::Limits;
+use rules::Refusal;
+use whole::Int;
+ghost use mathlib.Core.Path.{_≡_};
+ghost use Prim.Native.Nat.{_≤_};
+ghost use Rattle.sample.specs.Samples.{Fair};
+ghost use Rattle.sheet.specs.Judged.{judgedOf};
+
+pub fn judge(limits: Limits, intercept: Int, samples: usize, numbers: &[i32]) -> Judged
+    requires { ⌜ Fair limits (intercept .z) × ((1 ≤ samples) × (samples ≤ 1000)) ⌝ }
+    ensures { λ r. ⌜ r ≡ judgedOf limits (intercept .z) samples (now (numbers .entry)) ⌝ }
+{
+    if numbers.len() != 6 * samples {
+        return Judged::Refused(Refusal::SheetSize);
+    }
+    if passes::any_wrong_number(numbers, samples) {
+        return Judged::Refused(Refusal::SheetNumber);
+    }
+    if passes::any_wrong_third(limits, numbers, samples) {
+        return Judged::Refused(Refusal::ThirdReading);
+    }
+    let round = passes::again_round(limits, intercept, numbers, samples);
+    if passes::any_wrong_again(limits, intercept, round, numbers, samples) {
+        return Judged::Refused(Refusal::AgainPair);
+    }
+    Judged::Counted(passes::counted(limits, intercept, round, numbers, samples))
+}

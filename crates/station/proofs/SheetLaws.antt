@@ -1,0 +1,79 @@
+-- Which answer a sheet call gets, by its tests in the order of their numbers.
+use mathlib.Core.Path.{_≡_, refl, sym, ap, _∙_, subst}
+use mathlib.Core.Bool.{true, false}
+use mathlib.Core.List.{List}
+use mathlib.Core.Option.{Option, none, some}
+use Prim.Native.Nat.{ℕ, _≤_, _<_}
+use native.Mathlib.Omega.{arith}
+use lib.IntN.{ℤ, natAbs}
+use borrow.Author.Tests.{lt-ltb, le-ltb}
+use Rattle.rules.specs.Rows.{samples, lineCount, limitsOf}
+use Rattle.rules.specs.Refusals.{firstNumber}
+use Rattle.rules.specs.Sheets.{sheetChecks, setOf}
+use Rattle.rules.specs.Judging.{dayCheck, sheetNumbers, sheetSet, sheetVerdict}
+use Rattle.rules.specs.Soundness.{sound}
+use Rattle.rules.specs.Stations.{valuesOf, sheetStation, outcomeOf, sheetResult, sheetOf}
+use Rattle.rules.proofs.SheetBounds.{set-bounded}
+use Rattle.rules.specs.declared.Limits.{Limits}
+use Rattle.rules.specs.declared.Set.{Set}
+use Rattle.rules.specs.declared.Station.{Station}
+use Rattle.rules.specs.declared.Refusal.{Refusal}
+use Rattle.rules.specs.declared.Refusal.the-variants.{UnsoundStation, BadDay, UnknownLine}
+use Rattle.rules.specs.declared.SheetAnswer.{SheetAnswer}
+use Rattle.rules.specs.declared.SheetResult.{SheetResult}
+use Rattle.sheet.specs.Judged.{judgedBy, judgedOf}
+use Rattle.sheet.specs.declared.answer.Judged.{Judged}
+use Rattle.sheet.specs.declared.answer.Judged.the-variants.{Counted, Refused}
+use Rattle.averages.specs.Ranges.{SetsOf}
+use Rattle.soundness.proofs.FitsLaws.{size-within}
+use Rattle.station.specs.Accepted.{acceptedOf}
+
+abbrev pub refusedSheet : Station → Refusal → SheetResult
+refusedSheet s r = record { station = s; answer = SheetAnswer.Refused r }
+
+-- by what the sheet's numbers come to
+abbrev pub sheetBy : Station → ℕ → ℕ → Judged → SheetResult
+sheetBy s day line (Counted counted) = acceptedOf s day line counted
+sheetBy s day line (Refused r) = refusedSheet s r
+
+module _ (s : Station) (day line : ℕ) (numbers : List ℤ) where
+  pub sheet-unsound : sound s ≡ false → refusedSheet s UnsoundStation ≡ sheetOf s day line numbers
+  unfolding sheetOf
+  sheet-unsound e = simp e
+
+  module _ (right : sound s ≡ true) where
+    pub sheet-day : dayCheck (s .day) day .applies ≡ true → refusedSheet s BadDay ≡ sheetOf s day line numbers
+    unfolding sheetOf sheetNumbers
+    sheet-day e = simp (right, e)
+
+    module _ (good : dayCheck (s .day) day .applies ≡ false) where
+      pub sheet-line : lineCount (s .row) ≤ line → refusedSheet s UnknownLine ≡ sheetOf s day line numbers
+      unfolding sheetOf sheetNumbers
+      sheet-line h = simp (right, good, le-ltb line (lineCount (s .row)) h)
+
+      pub sheet-by : line < lineCount (s .row) → (j : Judged) → j ≡ judgedOf (limitsOf (s .row) line) (valuesOf s line .intercept) (samples (s .row)) numbers
+          → sheetBy s day line j ≡ sheetOf s day line numbers
+      unfolding sheetOf sheetNumbers sheetStation outcomeOf sheetVerdict sheetSet judgedOf acceptedOf
+      sheet-by h j e =
+          ap (sheetBy s day line) e
+          ∙ simp (right, good, lt-ltb line (lineCount (s .row)) h) (go (firstNumber (sheetChecks (limitsOf (s .row) line) (valuesOf s line .intercept) (samples (s .row)) numbers)))
+        where
+          go : (o : Option ℕ) → sheetBy s day line (judgedBy o (setOf (limitsOf (s .row) line) (valuesOf s line .intercept) numbers))
+              ≡ sheetResult o s (sheetStation s day line numbers) (outcomeOf s day line numbers)
+          go none = refl
+          go (some number) = refl
+
+-- the set that a sheet's numbers come to is in its range
+pub counted-fits : (limits : Limits) (i : ℤ) (n : ℕ) (numbers : List ℤ) (counted : Set) → natAbs i ≤ 1000 → n ≤ 6 → Counted counted ≡ judgedOf limits i n numbers
+    → SetsOf 1 (counted .sum) (counted .count)
+unfolding judgedOf
+counted-fits limits i n numbers counted hi hn e = go (firstNumber (sheetChecks limits i n numbers)) refl e
+  where
+    go : (o : Option ℕ) → firstNumber (sheetChecks limits i n numbers) ≡ o → Counted counted ≡ judgedBy o (setOf limits i numbers)
+        → SetsOf 1 (counted .sum) (counted .count)
+    go none r e =
+        let q : counted ≡ setOf limits i numbers = cc in
+        let b = set-bounded limits i n numbers hi r in
+        subst (λ (x : Set). SetsOf 1 (x .sum) (x .count)) (sym q)
+        (record { within = size-within 132000 (setOf limits i numbers .sum) (omega arith); few = omega arith })
+    go (some number) x e = let z : _≡_ {A = ℕ} 0 1 = cc in absurd (omega arith)
