@@ -1,12 +1,13 @@
 -- Sets and tests within their ranges.
-use mathlib.Core.Path.{_≡_, subst⁻¹}
+use mathlib.Core.Path.{_≡_, refl, subst⁻¹}
 use Prim.Native.Nat.{ℕ, _+_, _*_, _≤_}
 use native.Mathlib.Nat.{le-trans, mul-le-mul-left, mul-le-mul-right}
 use native.Mathlib.Omega.{arith}
 use mathlib.Core.List.{List}
 use lib.Dec.{T, leb, leb→le}
 use lib.IntN.{ℤ}
-use Rattle.rules.specs.Lines.{testOf}
+use Rattle.whole.proofs.PartLaws.{sum}
+use Rattle.rules.specs.Lines.{testOf, plus}
 use Rattle.rules.specs.declared.Set.{Set}
 use Rattle.rules.specs.declared.Test.{Test}
 use Rattle.rules.specs.declared.PastSet.{PastSet}
@@ -22,6 +23,10 @@ of-more j k t s =
     let a = mul-le-mul-right 132000 h in
     let b = mul-le-mul-right 12 h in
     record { within = omega arith; few = omega arith }
+
+-- the definition's own sum
+pub plus-joined : (set : Set) (p : PastSet) → Joined set p (plus set p)
+plus-joined set p = let s = sum (set .sum) (p .sum) in record { is = refl; high = s .high; low = s .low; count = refl }
 
 -- one set more
 pub join-fits : (k : ℕ) (set : Set) (p : PastSet) {r : Set} → SetsOf k (set .sum) (set .count) → SetsOf 1 (p .sum) (p .count) → Joined set p r → SetsOf (k + 1) (r .sum) (r .count)

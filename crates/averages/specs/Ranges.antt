@@ -45,6 +45,14 @@ pub record PastFits (p : PastSet) : Type 0 where
 pub record Held (k : ℕ) (past : List PastSet) : Type 0 where
   pub each : (j : ℕ) → j < k → PastFits (getD past j noSet)
 
+-- what the tests due of a set are made with: its limits, S and N, and an array whose first k past sets are valid
+pub record Due (limits : Limits) (set : Set) (k : ℕ) (past : List PastSet) : Type 0 where
+  pub limited : Limited limits
+  pub sets : SetsOf 1 (set .sum) (set .count)
+  pub some : 1 ≤ set .count
+  pub few : k ≤ 4
+  pub held : Held k past
+
 -- S and N of sets and a past set together
 pub record Joined (set : Set) (p : PastSet) (r : Set) : Type 0 where
   pub is : r ≡ plus set p

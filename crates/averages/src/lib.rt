@@ -16,7 +16,7 @@ ghost use lib.ListN.{take, length, getD};
 ghost use Rattle.whole.specs.Parts.{Within};
 ghost use Rattle.rules.specs.Lines.{testOf, exceeded, plus, firstExceeded, fiveTest, averagesDue, testsBy, validOn, checkDueLine};
 ghost use Rattle.rules.specs.Held.{noSet, phaseWord};
-ghost use Rattle.averages.specs.Ranges.{SetsOf, TestFits, FoundFits, Limited, Held, Joined};
+ghost use Rattle.averages.specs.Ranges.{SetsOf, TestFits, FoundFits, Limited, Held, Due, Joined};
 ghost use Rattle.averages.specs.Order.{foundOf, fromTwo, fromThree, oneMore, averageOf};
 
 fn test_of(limit: u32, set: Set) -> Test
@@ -51,8 +51,7 @@ fn plus(set: Set, p: PastSet) -> Set
 
 // The five together, where all lie on one side of zero; three is the first three of them.
 fn five_sets(limits: Limits, set: Set, three: Set, past: [PastSet; 4]) -> Found
-    requires { ⌜ (Limited limits) × ((SetsOf 3 (three .sum) (three .count)) × ((1 ≤ three .count) × (Held 4 past))) ⌝ }
-    requires { ⌜ three ≡ plus (plus set (getD past 0 noSet)) (getD past 1 noSet) ⌝ }
+    requires { ⌜ Due limits set 4 past × Joined (plus set (getD past 0 noSet)) (getD past 1 noSet) three ⌝ }
     ensures { λ r. ⌜ (r ≡ foundOf (firstExceeded (fiveTest limits set (getD past 0 noSet) (getD past 1 noSet) (getD past 2 noSet) (getD past 3 noSet)))) × FoundFits r ⌝ }
 {
     if !sides::on_one_side(set, past) {
@@ -67,8 +66,7 @@ fn five_sets(limits: Limits, set: Set, three: Set, past: [PastSet; 4]) -> Found
 
 // The three together where two past sets are valid, and then the five; two is the first two of them.
 fn three_sets(limits: Limits, set: Set, two: Set, k: usize, past: [PastSet; 4]) -> Found
-    requires { ⌜ (Limited limits) × ((SetsOf 2 (two .sum) (two .count)) × ((1 ≤ two .count) × ((k ≤ 4) × (Held k past)))) ⌝ }
-    requires { ⌜ two ≡ plus set (getD past 0 noSet) ⌝ }
+    requires { ⌜ Due limits set k past × Joined set (getD past 0 noSet) two ⌝ }
     ensures { λ r. ⌜ (r ≡ fromThree limits set (take k past)) × FoundFits r ⌝ }
 {
     if k < 2 {
@@ -87,7 +85,7 @@ fn three_sets(limits: Limits, set: Set, two: Set, k: usize, past: [PastSet; 4]) 
 
 // The two together where one past set is valid, and then the three.
 fn two_sets(limits: Limits, set: Set, k: usize, past: [PastSet; 4]) -> Found
-    requires { ⌜ (Limited limits) × ((SetsOf 1 (set .sum) (set .count)) × ((1 ≤ set .count) × ((k ≤ 4) × (Held k past)))) ⌝ }
+    requires { ⌜ Due limits set k past ⌝ }
     ensures { λ r. ⌜ (r ≡ fromTwo limits set (take k past)) × FoundFits r ⌝ }
 {
     if k == 0 {
@@ -103,7 +101,7 @@ fn two_sets(limits: Limits, set: Set, k: usize, past: [PastSet; 4]) -> Found
 
 // The averages due of a new or open line's set: the set alone, and then the two.
 fn one_set(limits: Limits, set: Set, k: usize, past: [PastSet; 4]) -> Found
-    requires { ⌜ (Limited limits) × ((SetsOf 1 (set .sum) (set .count)) × ((1 ≤ set .count) × ((k ≤ 4) × (Held k past)))) ⌝ }
+    requires { ⌜ Due limits set k past ⌝ }
     ensures { λ r. ⌜ (r ≡ foundOf (firstExceeded (averagesDue limits set (take k past)))) × FoundFits r ⌝ }
 {
     let t = test_of(limits.one, set);
@@ -127,7 +125,7 @@ fn check(limits: Limits, set: Set) -> Found
 
 // The first test exceeded of those due by the phase, with the newest k past sets valid.
 pub fn first_exceeded(limits: Limits, phase: Phase, set: Set, k: usize, past: [PastSet; 4]) -> Found
-    requires { ⌜ (Limited limits) × ((SetsOf 1 (set .sum) (set .count)) × ((1 ≤ set .count) × ((k ≤ 4) × (Held k past)))) ⌝ }
+    requires { ⌜ Due limits set k past ⌝ }
     ensures { λ r. ⌜ (r ≡ foundOf (firstExceeded (testsBy limits (phaseWord phase) set (take k past)))) × FoundFits r ⌝ }
 {
     match phase {

@@ -1,5 +1,6 @@
 // A call, its answer printed, and the station that it hands back.
 use super::say;
+use super::sheets;
 use rules::Basis;
 use rules::CornSet;
 use rules::Scan;
@@ -19,13 +20,18 @@ pub(crate) fn sheet(label: &[u8], s: Station, day: u32, numbers: [i32; 36]) -> S
     given.station
 }
 
-pub(crate) fn corn_sheet(
-    label: &[u8],
-    s: Station,
-    day: u32,
-    line: usize,
-    numbers: [i32; 24],
-) -> Station {
+// A wheat sheet of six samples alike.
+pub(crate) fn alike(label: &[u8], s: Station, day: u32, baseline: i32, result: i32) -> Station {
+    sheet(label, s, day, sheets::wheat(baseline, result))
+}
+
+// A wheat sheet of five samples alike, and the last with its own pair and again results.
+pub(crate) fn but_last(label: &[u8], s: Station, day: u32, result: i32, last: [i32; 3]) -> Station {
+    sheet(label, s, day, sheets::but_last(result, last))
+}
+
+pub(crate) fn corn_sheet(label: &[u8], s: Station, day: u32, line: usize, result: i32) -> Station {
+    let numbers = sheets::corn(result);
     let given = station::sheet(s, day, line, &numbers);
     let answer = given.answer;
     say::sheet(label, answer);

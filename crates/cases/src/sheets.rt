@@ -13,18 +13,19 @@ pub(crate) fn wheat(baseline: i32, result: i32) -> [i32; 36] {
     numbers
 }
 
-// The same with other results for the last sample, and again results.
-pub(crate) fn with_last(mut numbers: [i32; 36], first: i32, second: i32, again: i32) -> [i32; 36] {
-    numbers[31] = first;
-    numbers[32] = second;
-    numbers[34] = again;
-    numbers[35] = again;
+// Wheat, baseline 1000: five samples with the same results; the last with another first, second and again results.
+pub(crate) fn but_last(result: i32, last: [i32; 3]) -> [i32; 36] {
+    let mut numbers = wheat(1000, result);
+    numbers[31] = last[0];
+    numbers[32] = last[1];
+    numbers[34] = last[2];
+    numbers[35] = last[2];
     numbers
 }
 
 // Wheat, baseline 1000: five samples with one result and the last with another, and again.
 pub(crate) fn apart(result: i32, last: i32) -> [i32; 36] {
-    let mut numbers = with_last(wheat(1000, result), last, last, last);
+    let mut numbers = but_last(result, [last, last, last]);
     let mut i = 0;
     while i < 5 {
         numbers[6 * i + 4] = result;

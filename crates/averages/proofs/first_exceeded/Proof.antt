@@ -29,7 +29,7 @@ enum-told-3 : tie.Need-enum-told-3
 enum-told-3 c = search needs
 
 check-requires : tie.Need-check-requires
-check-requires c κs = let s = c .before .before in (s .pre .0, (s .pre .1 .0, s .pre .1 .1 .0))
+check-requires c κs = let s = c .before .before in (s .pre .limited, (s .pre .sets, s .pre .some))
 
 returns : tie.Need-returns
 unfolding testsBy

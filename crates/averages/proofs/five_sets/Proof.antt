@@ -1,36 +1,50 @@
 use mathlib.Core.Path.{_≡_, _∙_, ap}
+use Prim.Native.Nat.{ℕ, _≤_, _<_}
 use native.Mathlib.Omega.{arith}
 use lib.ListN.{getD}
 use borrow.Author.Tests.{not-true, not-false}
 use Rattle.rules.specs.Lines.{testOf, plus}
 use Rattle.rules.specs.Held.{noSet}
 use Rattle.rules.specs.declared.Set.{Set}
-use Rattle.averages.specs.Ranges.{SetsOf, TestFits}
+use Rattle.averages.specs.Ranges.{SetsOf, PastFits, TestFits}
 use Rattle.averages.specs.declared.answer.Found.the-variants.{Nothing}
-use Rattle.averages.proofs.RangeLaws.{of-more, join-fits, join-some, test-fits}
+use Rattle.averages.proofs.RangeLaws.{of-more, plus-joined, join-fits, join-some, test-fits}
 use Rattle.averages.proofs.OrderLaws.{tried-yes, tried-no, five-none, five-some}
 use borrow.Author.Needs.{needs}
 use Rattle.averages.proofs.five_sets.Statement.{statement}
 use Rattle.averages.proofs.five_sets.Tie as tie
 
+past : (c : tie.Start) (j : ℕ) → j < 4 → PastFits (getD (c .args .t4) j noSet)
+past c j h = c .pre .0 .held .each j h
+
+-- S and N of the first three, and that N is above 0
+three : (c : tie.Start) → SetsOf 3 (c .args .three .sum) (c .args .three .count)
+three c =
+    let p = getD (c .args .t4) 0 noSet in
+    join-fits 2 (plus (c .args .set) p) (getD (c .args .t4) 1 noSet) (join-fits 1 (c .args .set) p (c .pre .0 .sets) (past c 0 (omega arith) .set) (plus-joined (c .args .set) p)) (past c 1 (omega arith) .set) (c .pre .1)
+
+some : (c : tie.Start) → 1 ≤ c .args .three .count
+some c =
+    let p = getD (c .args .t4) 0 noSet in
+    join-some (plus (c .args .set) p) (getD (c .args .t4) 1 noSet) (join-some (c .args .set) p (c .pre .0 .some) (plus-joined (c .args .set) p)) (c .pre .1)
+
 four : (c : tie.After-plus) → SetsOf 4 (c .plus .result .sum) (c .plus .result .count)
 four c =
     let s = c .before .before .before .before in
-    join-fits 3 (s .args .three) (getD (s .args .t4) 2 noSet) (s .pre .0 .1 .0) (s .pre .0 .1 .1 .1 .each 2 (omega arith) .set) (c .plus .ensures)
+    join-fits 3 (s .args .three) (getD (s .args .t4) 2 noSet) (three s) (past s 2 (omega arith) .set) (c .plus .ensures)
 
 five-is : (c : tie.After-plus2) → c .plus2 .result
     ≡ plus (plus (plus (plus (c .before .before .before .before .before .before .args .set) (getD (c .before .before .before .before .before .before .args .t4) 0 noSet)) (getD (c .before .before .before .before .before .before .args .t4) 1 noSet)) (getD (c .before .before .before .before .before .before .args .t4) 2 noSet)) (getD (c .before .before .before .before .before .before .args .t4) 3 noSet)
 five-is c =
     let s = c .before .before .before .before .before .before in
-    c .plus2 .ensures .is ∙ ap (λ (x : Set). plus x (getD (s .args .t4) 3 noSet)) (c .before .before .plus .ensures .is ∙ ap (λ (x : Set). plus x (getD (s .args .t4) 2 noSet)) (s .pre .1))
+    c .plus2 .ensures .is ∙ ap (λ (x : Set). plus x (getD (s .args .t4) 3 noSet)) (c .before .before .plus .ensures .is ∙ ap (λ (x : Set). plus x (getD (s .args .t4) 2 noSet)) (s .pre .1 .is))
 
 fits : (c : tie.After-test-of) → TestFits (c .test-of .result)
 fits c =
     let p = c .before .before .before in
     let s = p .before .before .before .before in
-    let last = s .pre .0 .1 .1 .1 .each 3 (omega arith) .set in
-    test-fits (s .args .limits .five) 5 (c .before .plus2 .result) (c .test-of .ensures) (s .pre .0 .0 .five) tt (join-fits 4 (p .plus .result) (getD (s .args .t4) 3 noSet) (four p) last (c .before .plus2 .ensures))
-    (join-some (p .plus .result) (getD (s .args .t4) 3 noSet) (join-some (s .args .three) (getD (s .args .t4) 2 noSet) (s .pre .0 .1 .1 .0) (p .plus .ensures)) (c .before .plus2 .ensures))
+    test-fits (s .args .limits .five) 5 (c .before .plus2 .result) (c .test-of .ensures) (s .pre .0 .limited .five) tt (join-fits 4 (p .plus .result) (getD (s .args .t4) 3 noSet) (four p) (past s 3 (omega arith) .set) (c .before .plus2 .ensures))
+    (join-some (p .plus .result) (getD (s .args .t4) 3 noSet) (join-some (s .args .three) (getD (s .args .t4) 2 noSet) (some s) (p .plus .ensures)) (c .before .plus2 .ensures))
 
 on-one-side-requires : tie.Need-on-one-side-requires
 on-one-side-requires c κs = tt
@@ -45,13 +59,13 @@ array-copy-out-plus : tie.Need-array-copy-out-plus
 array-copy-out-plus c = search needs
 
 plus-requires : tie.Need-plus-requires
-plus-requires c κs = let s = c .before .before .before in (of-more 3 4 tt (s .pre .0 .1 .0), s .pre .0 .1 .1 .1 .each 2 (omega arith) .set)
+plus-requires c κs = let s = c .before .before .before in (of-more 3 4 tt (three s), past s 2 (omega arith) .set)
 
 array-copy-out-plus-2 : tie.Need-array-copy-out-plus-2
 array-copy-out-plus-2 c = search needs
 
 plus-requires-2 : tie.Need-plus-requires-2
-plus-requires-2 c κs = (four (c .before), c .before .before .before .before .before .pre .0 .1 .1 .1 .each 3 (omega arith) .set)
+plus-requires-2 c κs = (four (c .before), past (c .before .before .before .before .before) 3 (omega arith) .set)
 
 test-of-requires : tie.Need-test-of-requires
 test-of-requires c κs = tt

@@ -11,7 +11,7 @@ use Rattle.averages.proofs.one_set.Tie as tie
 fits : (c : tie.After-test-of) → TestFits (c .test-of .result)
 fits c =
     let s = c .before in
-    test-fits (s .args .limits .one) 1 (s .args .set) (c .test-of .ensures) (s .pre .0 .one) tt (s .pre .1 .0) (s .pre .1 .1 .0)
+    test-fits (s .args .limits .one) 1 (s .args .set) (c .test-of .ensures) (s .pre .limited .one) tt (s .pre .sets) (s .pre .some)
 
 test-of-requires : tie.Need-test-of-requires
 test-of-requires c κs = tt

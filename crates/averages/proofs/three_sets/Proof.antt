@@ -1,10 +1,10 @@
-use mathlib.Core.Path.{_≡_, _∙_, ap}
+use mathlib.Core.Path.{_≡_, _∙_, ap, subst}
 use native.Mathlib.Omega.{arith}
 use lib.ListN.{length, getD}
 use Rattle.rules.specs.Lines.{testOf, plus, firstExceeded, fiveTest}
 use Rattle.rules.specs.Held.{noSet}
 use Rattle.rules.specs.declared.Set.{Set}
-use Rattle.averages.specs.Ranges.{SetsOf, PastFits, TestFits}
+use Rattle.averages.specs.Ranges.{SetsOf, PastFits, TestFits, Joined}
 use Rattle.averages.specs.Order.{foundOf}
 use Rattle.averages.specs.declared.answer.Found.the-variants.{Nothing}
 use Rattle.averages.proofs.RangeLaws.{of-more, join-fits, join-some, test-fits, held-less}
@@ -13,19 +13,28 @@ use borrow.Author.Needs.{needs}
 use Rattle.averages.proofs.three_sets.Statement.{statement}
 use Rattle.averages.proofs.three_sets.Tie as tie
 
+newest : (c : tie.Else1) → PastFits (getD (c .before .args .t5) 0 noSet)
+newest c = let two = c .if1 .left in c .before .pre .0 .held .each 0 (omega arith)
+
 second : (c : tie.Else1) → PastFits (getD (c .before .args .t5) 1 noSet)
-second c = let two = c .if1 .left in c .before .pre .0 .1 .1 .1 .1 .each 1 (omega arith)
+second c = let two = c .if1 .left in c .before .pre .0 .held .each 1 (omega arith)
 
-three : (c : tie.After-plus) → SetsOf 3 (c .plus .result .sum) (c .plus .result .count)
-three c = let s = c .before .before .before in join-fits 2 (s .args .two) (getD (s .args .t5) 1 noSet) (s .pre .0 .1 .0) (second (c .before .before) .set) (c .plus .ensures)
+two : (c : tie.Else1) → SetsOf 2 (c .before .args .two .sum) (c .before .args .two .count)
+two c = let s = c .before in join-fits 1 (s .args .set) (getD (s .args .t5) 0 noSet) (s .pre .0 .sets) (newest c .set) (s .pre .1)
 
-three-is : (c : tie.After-plus) → c .plus .result ≡ plus (plus (c .before .before .before .args .set) (getD (c .before .before .before .args .t5) 0 noSet)) (getD (c .before .before .before .args .t5) 1 noSet)
-three-is c = let s = c .before .before .before in c .plus .ensures .is ∙ ap (λ (x : Set). plus x (getD (s .args .t5) 1 noSet)) (s .pre .1)
+three : (c : tie.After-plus) → Joined (plus (c .before .before .before .args .set) (getD (c .before .before .before .args .t5) 0 noSet)) (getD (c .before .before .before .args .t5) 1 noSet) (c .plus .result)
+three c =
+    let s = c .before .before .before in
+    subst (λ (x : Set). Joined x (getD (s .args .t5) 1 noSet) (c .plus .result)) (s .pre .1 .is) (c .plus .ensures)
 
 fits : (c : tie.After-test-of) → TestFits (c .test-of .result)
 fits c =
-    let s = c .before .before .before .before in
-    test-fits (s .args .limits .three) 3 (c .before .plus .result) (c .test-of .ensures) (s .pre .0 .0 .three) tt (three (c .before)) (join-some (s .args .two) (getD (s .args .t5) 1 noSet) (s .pre .0 .1 .1 .0) (c .before .plus .ensures))
+    let p = c .before in
+    let e = p .before .before in
+    let s = e .before in
+    let some = join-some (s .args .set) (getD (s .args .t5) 0 noSet) (s .pre .0 .some) (s .pre .1) in
+    test-fits (s .args .limits .three) 3 (p .plus .result) (c .test-of .ensures) (s .pre .0 .limited .three) tt
+    (join-fits 2 (s .args .two) (getD (s .args .t5) 1 noSet) (two e) (second e .set) (p .plus .ensures)) (join-some (s .args .two) (getD (s .args .t5) 1 noSet) some (p .plus .ensures))
 
 returns : tie.Need-returns
 returns c =
@@ -36,7 +45,7 @@ array-copy-out-plus : tie.Need-array-copy-out-plus
 array-copy-out-plus c = search needs
 
 plus-requires : tie.Need-plus-requires
-plus-requires c κs = (of-more 2 4 tt (c .before .before .pre .0 .1 .0), second (c .before) .set)
+plus-requires c κs = (of-more 2 4 tt (two (c .before)), second (c .before) .set)
 
 test-of-requires : tie.Need-test-of-requires
 test-of-requires c κs = tt
@@ -49,7 +58,7 @@ returns-2 c =
     let e = c .before .before .before .before .before in
     let s = e .before .args in
     let full : length (s .t5) ≡ 4 = search needs in (
-      three-first (s .limits) (s .set) (s .k) (s .t5) full (e .if1 .left) (c .before .before .test-of .ensures ∙ ap (testOf (s .limits .three)) (three-is (c .before .before .before))) (c .before .is-exceeded .ensures) (c .if2 .taken),
+      three-first (s .limits) (s .set) (s .k) (s .t5) full (e .if1 .left) (c .before .before .test-of .ensures ∙ ap (testOf (s .limits .three)) (three (c .before .before .before) .is)) (c .before .is-exceeded .ensures) (c .if2 .taken),
       fits (c .before .before),
     )
 
@@ -59,7 +68,7 @@ returns-3 c =
     let s = e .before .args in
     let full : length (s .t5) ≡ 4 = search needs in (
       tried-no (testOf (s .limits .three) (plus (plus (s .set) (getD (s .t5) 0 noSet)) (getD (s .t5) 1 noSet))) Nothing
-          (c .before .before .before .test-of .ensures ∙ ap (testOf (s .limits .three)) (three-is (c .before .before .before .before))) (c .before .before .is-exceeded .ensures) (c .before .if2 .left)
+          (c .before .before .before .test-of .ensures ∙ ap (testOf (s .limits .three)) (three (c .before .before .before .before) .is)) (c .before .before .is-exceeded .ensures) (c .before .if2 .left)
           ∙ three-some (s .limits) (s .set) (s .k) (s .t5) full (e .if1 .left) (c .if3 .taken),
       tt,
     )
@@ -67,8 +76,8 @@ returns-3 c =
 five-sets-requires : tie.Need-five-sets-requires
 five-sets-requires c κs =
     let p = c .before .before .before .before in
-    let s = p .before .before .before in
-    ((s .pre .0 .0, (three p, (join-some (s .args .two) (getD (s .args .t5) 1 noSet) (s .pre .0 .1 .1 .0) (p .plus .ensures), held-less (c .if3 .left) (s .pre .0 .1 .1 .1 .1)))), three-is p)
+    let d = p .before .before .before .pre .0 in
+    (record { limited = d .limited; sets = d .sets; some = d .some; few = omega arith; held = held-less (c .if3 .left) (d .held) }, three p)
 
 returns-4 : tie.Need-returns-4
 returns-4 c =
@@ -78,7 +87,7 @@ returns-4 c =
       c .five-sets .ensures .0
           ∙ tried-no (testOf (s .limits .three) (plus (plus (s .set) (getD (s .t5) 0 noSet)) (getD (s .t5) 1 noSet)))
           (foundOf (firstExceeded (fiveTest (s .limits) (s .set) (getD (s .t5) 0 noSet) (getD (s .t5) 1 noSet) (getD (s .t5) 2 noSet) (getD (s .t5) 3 noSet))))
-          (c .before .before .before .before .test-of .ensures ∙ ap (testOf (s .limits .three)) (three-is (c .before .before .before .before .before))) (c .before .before .before .is-exceeded .ensures) (c .before .before .if2 .left)
+          (c .before .before .before .before .test-of .ensures ∙ ap (testOf (s .limits .three)) (three (c .before .before .before .before .before) .is)) (c .before .before .before .is-exceeded .ensures) (c .before .before .if2 .left)
           ∙ three-four (s .limits) (s .set) (s .k) (s .t5) full (c .before .if3 .left),
       c .five-sets .ensures .1,
     )

@@ -12,15 +12,15 @@ use Rattle.averages.proofs.two_sets.Statement.{statement}
 use Rattle.averages.proofs.two_sets.Tie as tie
 
 newest : (c : tie.Else1) → PastFits (getD (c .before .args .t4) 0 noSet)
-newest c = let some = c .if1 .left in c .before .pre .1 .1 .1 .1 .each 0 (omega arith)
+newest c = let some = c .if1 .left in c .before .pre .held .each 0 (omega arith)
 
 two : (c : tie.After-plus) → SetsOf 2 (c .plus .result .sum) (c .plus .result .count)
-two c = let s = c .before .before .before in join-fits 1 (s .args .set) (getD (s .args .t4) 0 noSet) (s .pre .1 .0) (newest (c .before .before) .set) (c .plus .ensures)
+two c = let s = c .before .before .before in join-fits 1 (s .args .set) (getD (s .args .t4) 0 noSet) (s .pre .sets) (newest (c .before .before) .set) (c .plus .ensures)
 
 fits : (c : tie.After-test-of) → TestFits (c .test-of .result)
 fits c =
     let s = c .before .before .before .before in
-    test-fits (s .args .limits .two) 2 (c .before .plus .result) (c .test-of .ensures) (s .pre .0 .two) tt (two (c .before)) (join-some (s .args .set) (getD (s .args .t4) 0 noSet) (s .pre .1 .1 .0) (c .before .plus .ensures))
+    test-fits (s .args .limits .two) 2 (c .before .plus .result) (c .test-of .ensures) (s .pre .limited .two) tt (two (c .before)) (join-some (s .args .set) (getD (s .args .t4) 0 noSet) (s .pre .some) (c .before .plus .ensures))
 
 returns : tie.Need-returns
 returns c =
@@ -31,7 +31,7 @@ array-copy-out-plus : tie.Need-array-copy-out-plus
 array-copy-out-plus c = search needs
 
 plus-requires : tie.Need-plus-requires
-plus-requires c κs = (of-more 1 4 tt (c .before .before .pre .1 .0), newest (c .before) .set)
+plus-requires c κs = (of-more 1 4 tt (c .before .before .pre .sets), newest (c .before) .set)
 
 test-of-requires : tie.Need-test-of-requires
 test-of-requires c κs = tt
@@ -50,10 +50,7 @@ returns-2 c =
     )
 
 three-sets-requires : tie.Need-three-sets-requires
-three-sets-requires c κs =
-    let s = c .before .before .before .before .before .before in
-    let p = c .before .before .before in
-    ((s .pre .0, (two p, (join-some (s .args .set) (getD (s .args .t4) 0 noSet) (s .pre .1 .1 .0) (p .plus .ensures), s .pre .1 .1 .1))), p .plus .ensures .is)
+three-sets-requires c κs = (c .before .before .before .before .before .before .pre, c .before .before .before .plus .ensures)
 
 returns-3 : tie.Need-returns-3
 returns-3 c =

@@ -33,7 +33,13 @@ first-exceeded-requires c κs =
     let s = c .before .before .before .before in
     let most = c .valid-count .ensures .1 in
     let room = s .pre .1 .0 .room in
-    (s .pre .0, (s .pre .1 .1, (some-of _ (c .before .before .if1 .left), (omega arith, held-less most (s .pre .1 .0 .held)))))
+    record {
+      limited = s .pre .0;
+      sets = s .pre .1 .1;
+      some = some-of _ (c .before .before .if1 .left);
+      few = omega arith;
+      held = held-less most (s .pre .1 .0 .held);
+    }
 
 enum-known-t : tie.Need-enum-known-t
 enum-known-t c = search needs

@@ -10,11 +10,8 @@ Inv-loop result last numbers₀ i₀ numbers i = i ≤ 5
 abbrev μ-loop : tie.MeasureT-loop
 μ-loop result last numbers₀ i₀ numbers i = 5 - i
 
-wheat-requires : tie.Need-wheat-requires Inv-loop μ-loop
-wheat-requires c κs = tt
-
-with-last-requires : tie.Need-with-last-requires Inv-loop μ-loop
-with-last-requires c κs = tt
+but-last-requires : tie.Need-but-last-requires Inv-loop μ-loop
+but-last-requires c κs = tt
 
 loop-holds : tie.Need-loop-holds Inv-loop μ-loop
 loop-holds c = omega arith
@@ -61,8 +58,7 @@ apart-spec =
     (tie.spec
     Inv-loop
     μ-loop
-    wheat-requires
-    with-last-requires
+    but-last-requires
     loop-holds
     mul-numbers
     add-numbers
