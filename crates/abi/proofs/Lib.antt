@@ -1,0 +1,3 @@
+-- What the exported calls come to, test by test.
+pub mod StationTests
+pub mod ChartTests

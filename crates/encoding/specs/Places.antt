@@ -1,0 +1,24 @@
+-- Numbers in the places of a caller's array of int32_t.
+use Prim.Native.Nat.{ℕ}
+use mathlib.Core.Bool.{Bool, true, false, cond}
+use mathlib.Core.List.{List}
+use lib.Dec.{ltb}
+use lib.IntN.{ℤ, pos, negsuc}
+use lib.ListN.{getD}
+
+-- a natural number as the same int32_t; −1, which is no natural number, where none holds it
+unfoldable pub word : ℕ → ℤ
+word n = cond (ltb n 2147483648) (pos n) (negsuc 0)
+
+-- the place holds a natural number; and that number
+abbrev pub isNatural : ℤ → Bool
+isNatural (pos n) = true
+isNatural (negsuc n) = false
+
+abbrev pub natural : ℤ → ℕ
+natural (pos n) = n
+natural (negsuc n) = 0
+
+-- what stands at a place
+abbrev pub place : List ℤ → ℕ → ℤ
+place words i = getD words i (pos 0)

@@ -1,0 +1,455 @@
+//! The model on paper 01's "Cases beside the edges", the example of week 26 and the readings of
+//! sentences that admit two.
+
+use grain_model::rules::Limits;
+use grain_model::sheet::Sample;
+use grain_model::station::BLANK;
+use grain_model::text::program;
+use grain_model::{
+    Basis, Book, Chart, Line, PastSet, Phase, Rules, Scan, Station, Test, Verdict, reading,
+};
+
+const NAMES: &str = "week sample original monitor\n";
+const OUT_NAMES: &str = "week n sum range al tl run ral rtl\n";
+
+fn wheat() -> Limits {
+    Rules::paper().products[0].lines[0].clone()
+}
+
+/// A sample measured twice whose deviation is `deviation` at intercept 0.
+fn twice(deviation: i32) -> [i32; 6] {
+    let first = 1300 + deviation.div_euclid(2);
+    [1300, first, 2600 + deviation - first, -1, -1, -1]
+}
+
+/// The same with an again pair of this deviation.
+fn again(deviation: i32, anew: i32) -> [i32; 6] {
+    let [baseline, first, second, ..] = twice(deviation);
+    let [_, again_first, again_second, ..] = twice(anew);
+    [baseline, first, second, -1, again_first, again_second]
+}
+
+/// A wheat sheet whose S is `s` (N 12) at intercept `intercept`, spread evenly.
+fn wheat_sheet(s: i32, intercept: i32) -> Vec<i32> {
+    let each = s.div_euclid(6);
+    let more = s.rem_euclid(6) as usize;
+    (0..6)
+        .flat_map(|place| twice(each + i32::from(place < more) - 2 * intercept))
+        .collect()
+}
+
+/// A wheat station with this line 0.
+fn station(phase: Phase, intercept: i64, day: i64, past: &[(i64, i64)]) -> Station {
+    let mut line = Line {
+        intercept,
+        phase,
+        ..Line::FRESH
+    };
+    for &(day, s) in past.iter().rev() {
+        line.join(PastSet { day, s, n: 12 });
+    }
+    let mut station = Station::fresh(0);
+    station.day = day;
+    station.lines[0] = line;
+    station
+}
+
+/// The verdict on a sheet with this S entered on this day.
+fn entered(mut station: Station, day: u32, s: i32) -> (Station, Verdict) {
+    let numbers = wheat_sheet(s, station.lines[0].intercept as i32);
+    let judged = station.sheet(&Rules::paper(), day, 0, &numbers).unwrap();
+    assert_eq!((judged.outcome.s, judged.outcome.n), (i64::from(s), 12));
+    assert_eq!(judged.outcome.phase, station.lines[0].phase);
+    (station, judged.verdict)
+}
+
+#[test]
+fn readings() {
+    assert_eq!(reading(0x3BA3_D70A), Ok(0));
+    assert_eq!(reading(0.125_f32.to_bits()), Ok(13));
+    assert_eq!(reading(100_f32.to_bits()), Ok(10_000));
+    assert_eq!(reading(0), Ok(0));
+    assert_eq!(reading(0x8000_0000), Ok(0));
+    assert_eq!(reading(0x8000_0001), Err(9));
+    assert_eq!(reading(100_f32.to_bits() + 1), Err(9));
+    for not_finite in [f32::NAN, -f32::NAN, f32::INFINITY, f32::NEG_INFINITY] {
+        assert_eq!(reading(not_finite.to_bits()), Err(9));
+    }
+    assert_eq!(reading(1), Ok(0));
+    // 3BA3D70B is the next float, just above 0.005.
+    assert_eq!(reading(0x3BA3_D70B), Ok(1));
+    // Exact halves (odd multiples of 1/8) go up.
+    assert_eq!(reading(0.375_f32.to_bits()), Ok(38));
+    assert_eq!(reading(12.625_f32.to_bits()), Ok(1263));
+}
+
+#[test]
+fn thirds_and_pairs() {
+    let sample = |second, third| Sample {
+        baseline: 1300,
+        first: 1300,
+        second,
+        third,
+        again: None,
+    };
+    assert!(!sample(1330, None).third_due(&wheat()));
+    assert!(sample(1331, None).third_due(&wheat()));
+    assert_eq!(sample(1331, Some(1316)).pair(), [1331, 1316]);
+    assert_eq!(sample(1331, Some(1362)).pair(), [1300, 1331]);
+    // Among equals the earlier named: first-third before second-third.
+    assert_eq!(sample(1340, Some(1320)).pair(), [1300, 1320]);
+    assert_eq!(sample(1330, None).pair(), [1300, 1330]);
+}
+
+#[test]
+fn again_pairs() {
+    let rules = Rules::paper();
+    let sums =
+        |sheet: [[i32; 6]; 6]| grain_model::sheet::sums(&rules, 6, &wheat(), 0, &sheet.concat());
+    let zero = twice(0);
+    // 82 and zeros: all kept.
+    let kept = sums([twice(82), zero, zero, zero, zero, zero]).unwrap();
+    assert_eq!((kept.s, kept.n, kept.again, kept.dropped), (82, 12, 0, 0));
+    // An again pair that isn't due.
+    assert_eq!(sums([again(82, 0), zero, zero, zero, zero, zero]), Err(7));
+    // 82 and -20: again due for the first.
+    let low = twice(-20);
+    assert_eq!(sums([twice(82), low, zero, zero, zero, zero]), Err(7));
+    let kept = sums([again(82, 80), low, zero, zero, zero, zero]).unwrap();
+    assert_eq!((kept.s, kept.n, kept.again, kept.dropped), (60, 12, 1, 0));
+    let dropped = sums([again(82, 81), low, zero, zero, zero, zero]).unwrap();
+    assert_eq!(
+        (dropped.s, dropped.n, dropped.again, dropped.dropped),
+        (-20, 10, 1, 1)
+    );
+    // 80 doesn't deviate, and 82 with -18 is 100 apart: within.
+    assert_eq!(
+        sums([twice(80), twice(-80), zero, zero, zero, zero])
+            .unwrap()
+            .n,
+        12
+    );
+    assert_eq!(
+        sums([twice(82), twice(-18), zero, zero, zero, zero])
+            .unwrap()
+            .s,
+        64
+    );
+    // Every sample still deviating: nothing kept.
+    let all = sums([
+        again(82, 82),
+        again(-82, -82),
+        again(82, 82),
+        again(82, 82),
+        again(82, 82),
+        again(82, 81),
+    ]);
+    assert_eq!(
+        all.map(|sums| (sums.s, sums.n, sums.dropped)),
+        Ok((0, 0, 6))
+    );
+}
+
+#[test]
+fn one_set() {
+    let fresh = Station::fresh(0);
+    let (open, verdict) = entered(fresh, 3, 120);
+    assert_eq!((verdict, open.lines[0].phase), (Verdict::Met, Phase::Open));
+    assert_eq!(
+        open.lines[0].sets(),
+        [PastSet {
+            day: 3,
+            s: 120,
+            n: 12
+        }]
+    );
+    assert_eq!(open.day, 3);
+    let (adjusted, verdict) = entered(fresh, 3, 121);
+    assert_eq!(verdict, Verdict::Adjusted(Test::One, -10));
+    assert_eq!(adjusted.lines[0].intercept, -10);
+    assert_eq!(adjusted.lines[0].phase, Phase::CheckDue);
+    assert_eq!(entered(fresh, 3, -126).0.lines[0].intercept, 11);
+    assert_eq!(entered(fresh, 3, -125).0.lines[0].intercept, 10);
+}
+
+#[test]
+fn two_and_three_sets() {
+    let open = station(Phase::Open, 0, 20, &[(6, 70)]);
+    assert_eq!(entered(open, 20, 98).1, Verdict::Met);
+    assert_eq!(entered(open, 20, 99).1, Verdict::Adjusted(Test::Two, -7));
+    // 14 days old counts, 15 doesn't.
+    assert_eq!(entered(open, 21, 99).1, Verdict::Met);
+    assert_eq!(entered(open, 20, 99).0.lines[0].past, [BLANK; 4]);
+    let open = station(Phase::Open, 0, 20, &[(7, 60), (6, 60)]);
+    assert_eq!(entered(open, 20, 60).1, Verdict::Met);
+    assert_eq!(entered(open, 20, 61).1, Verdict::Adjusted(Test::Three, -5));
+    // The older one ignored: two sets only.
+    assert_eq!(entered(open, 21, 61).1, Verdict::Met);
+}
+
+#[test]
+fn five_sets() {
+    let past = |s: i64| station(Phase::Open, 0, 20, &[(20, s), (20, s), (19, s), (18, s)]);
+    assert_eq!(entered(past(36), 20, 36).1, Verdict::Met);
+    assert_eq!(
+        entered(past(37), 20, 37).1,
+        Verdict::Adjusted(Test::Five, -3)
+    );
+    assert_eq!(
+        entered(past(-37), 20, -37).1,
+        Verdict::Adjusted(Test::Five, 3)
+    );
+    // Zero breaks the five, and so does another sign.
+    let broken = station(Phase::Open, 0, 20, &[(20, 55), (20, 55), (19, 0), (18, 90)]);
+    assert_eq!(entered(broken, 20, 55).1, Verdict::Met);
+    // Only the newest four are held.
+    let (five, _) = entered(past(36), 20, 35);
+    assert_eq!(five.lines[0].held, 4);
+    assert_eq!(five.lines[0].sets()[0].s, 35);
+}
+
+#[test]
+fn check_due() {
+    let due = station(Phase::CheckDue, 40, 9, &[]);
+    let (open, verdict) = entered(due, 9, 60);
+    assert_eq!((verdict, open.lines[0].phase), (Verdict::Met, Phase::Open));
+    assert_eq!(
+        open.lines[0].sets(),
+        [PastSet {
+            day: 9,
+            s: 60,
+            n: 12
+        }]
+    );
+    let (again, verdict) = entered(due, 9, 61);
+    assert_eq!(verdict, Verdict::Adjusted(Test::Check, -5));
+    assert_eq!(
+        (again.lines[0].intercept, again.lines[0].phase),
+        (35, Phase::CheckDue)
+    );
+}
+
+#[test]
+fn shut_at_the_bound() {
+    let near = station(Phase::New, -990, 0, &[]);
+    assert_eq!(entered(near, 0, 125).1, Verdict::Adjusted(Test::One, -10));
+    let (shut, verdict) = entered(near, 0, 126);
+    assert_eq!(verdict, Verdict::Bounded(Test::One));
+    assert_eq!(
+        (shut.lines[0].intercept, shut.lines[0].phase),
+        (-990, Phase::CheckDue)
+    );
+}
+
+#[test]
+fn repairs() {
+    let rules = Rules::paper();
+    let mut open = station(Phase::Open, 12, 9, &[(9, 5), (8, 6)]);
+    assert_eq!(open.repair(&rules, 8), Err(2));
+    assert_eq!(open.repair(&rules, 10), Ok(()));
+    assert_eq!(open, station(Phase::New, 12, 10, &[]));
+    let mut due = station(Phase::CheckDue, 12, 9, &[]);
+    due.repair(&rules, 99_999).unwrap();
+    assert_eq!(due, station(Phase::CheckDue, 12, 99_999, &[]));
+    assert_eq!(due.repair(&rules, 100_000), Err(2));
+}
+
+#[test]
+fn market_figures() {
+    let rules = Rules::paper();
+    let open = station(Phase::Open, 0, 10, &[(10, 0)]);
+    let asked = |mut station: Station, day, percent: f32, basis| {
+        let scan = Scan::Wheat(percent.to_bits());
+        let answer = station.market(&rules, day, 0, scan, basis);
+        answer.map(|certificate| (certificate.corrected, certificate.at_basis))
+    };
+    assert_eq!(asked(open, 10, 13.54, Basis::Dry), Ok((135, 154)));
+    assert_eq!(asked(open, 10, 13.50, Basis::Dry), Ok((135, 153)));
+    assert_eq!(asked(open, 10, 13.45, Basis::Standard), Ok((135, 135)));
+    assert_eq!(asked(open, 10, 88.00, Basis::Dry), Ok((880, 1000)));
+    assert_eq!(asked(open, 10, 88.01, Basis::Dry), Err(14));
+    assert_eq!(asked(open, 17, 13.45, Basis::Standard), Ok((135, 135)));
+    assert_eq!(asked(open, 18, 13.45, Basis::Standard), Err(13));
+    assert_eq!(asked(open, 9, 13.45, Basis::Standard), Err(2));
+    assert_eq!(asked(open, 10, 13.45, Basis::AsIs(-1)), Err(10));
+    assert_eq!(asked(open, 10, 13.45, Basis::AsIs(5001)), Err(10));
+    assert_eq!(
+        asked(open, 10, 13.45, Basis::Specified(5000)),
+        Ok((135, 76))
+    );
+    let low = station(Phase::Open, -1000, 10, &[(10, 0)]);
+    assert_eq!(asked(low, 10, 9.99, Basis::Standard), Err(11));
+    assert_eq!(asked(low, 10, 10.0, Basis::Standard), Ok((0, 0)));
+    // h is judged though the line isn't open.
+    let new = station(Phase::New, -1000, 10, &[]);
+    assert_eq!(asked(new, 10, 9.99, Basis::Standard), Err(11));
+    assert_eq!(asked(new, 10, 10.0, Basis::Standard), Err(12));
+}
+
+#[test]
+fn scans() {
+    let rules = Rules::paper();
+    let mut corn = Station::fresh(1);
+    let nan = f32::NAN.to_bits();
+    let scan = Scan::Corn([nan, 4_f32.to_bits(), nan]);
+    assert_eq!(corn.market(&rules, 0, 0, scan, Basis::Dry), Err(9));
+    assert_eq!(corn.market(&rules, 0, 1, scan, Basis::Dry), Err(12));
+    assert_eq!(corn.market(&rules, 0, 3, scan, Basis::Dry), Err(3));
+    assert_eq!(
+        corn.market(&rules, 0, 0, Scan::Wheat(nan), Basis::Dry),
+        Err(8)
+    );
+    assert_eq!(corn.market(&rules, 0, 0, Scan::Fault, Basis::Dry), Err(8));
+    assert_eq!(
+        Station::fresh(0).market(&rules, 0, 0, scan, Basis::Dry),
+        Err(8)
+    );
+    assert_eq!(Station::open(&rules, 2), (Station::fresh(0), Err(1)));
+}
+
+/// The average of each set is its sum over 5.
+fn charted(sums: &[i32]) -> Vec<grain_model::ChartValues> {
+    let mut chart = Chart::fresh(0);
+    let mut buffer = [0; 40];
+    let mut chart_one = |(week, sum): (usize, &i32)| {
+        let numbers = [
+            [1300 + sum, 1300],
+            [1300; 2],
+            [1300; 2],
+            [1300; 2],
+            [1300; 2],
+        ];
+        let week = week as u32 + 1;
+        chart
+            .set(&Rules::paper(), week, &numbers.concat(), &mut buffer)
+            .unwrap()
+    };
+    sums.iter().enumerate().map(&mut chart_one).collect()
+}
+
+#[test]
+fn charts() {
+    let last = |sums: &[i32]| charted(sums).pop().unwrap();
+    assert!(last(&[100]).absolute && last(&[-100]).absolute);
+    assert!(!last(&[99]).absolute && !last(&[-99]).absolute);
+    assert!(last(&[75, 75]).tolerance && last(&[-75, -75]).tolerance);
+    assert!(!last(&[75, -75]).tolerance && !last(&[75, 74]).tolerance);
+    assert!(!last(&[75]).tolerance);
+    assert!(last(&[51, 51, 51, 51]).run && last(&[-51, -51, -51, -51]).run);
+    assert!(!last(&[50, 50, 50, 50]).run && !last(&[51, 51, 51]).run);
+    assert!(last(&[51, 51, -9, 51, 51]).run && last(&[-9, 51, 51, 51, 51]).run);
+    assert!(!last(&[51, 51, 0, 0, 51]).run && !last(&[51, 51, 51, 51, 0]).run);
+    // Any choice suffices: of four previous, the three largest.
+    assert!(last(&[55, 51, 51, 1, 45]).run);
+    assert!(last(&[60, 60]).range_absolute && !last(&[59]).range_absolute);
+    assert!(last(&[40, 40]).range_tolerance && !last(&[40, 39]).range_tolerance);
+}
+
+#[test]
+fn chart_refusals() {
+    let rules = Rules::paper();
+    let mut chart = Chart::fresh(3);
+    chart.last_week = 7;
+    let mut set = |week, numbers: &[i32], bytes: usize| {
+        let mut buffer = vec![b'#'; bytes];
+        let answer = chart.set(&rules, week, numbers, &mut buffer);
+        assert!(answer.is_ok() || buffer.iter().all(|&byte| byte == b'#'));
+        answer.map(|values| values.length)
+    };
+    assert_eq!(set(7, &[], 0), Err(19));
+    assert_eq!(set(10_000, &[], 0), Err(19));
+    assert_eq!(set(8, &[], 0), Err(20));
+    assert_eq!(set(8, &[-1], 0), Err(20));
+    assert_eq!(set(8, &[1; 12], 0), Err(20));
+    assert_eq!(set(8, &[1, 10_001], 0), Err(21));
+    assert_eq!(set(8, &[-1, 1], 0), Err(21));
+    assert_eq!(set(8, &[1, 1], 39), Err(22));
+    assert_eq!(set(8, &[1, 1], 40), Ok("8 1 0 0 0 0 0 0 0\n".len()));
+    let (fresh, refused) = Chart::open(&rules, 4);
+    assert_eq!((fresh, refused), (Chart::fresh(0), Err(1)));
+    chart.sets[0].count = 6;
+    assert_eq!(chart.set(&rules, 9, &[], &mut []), Err(0));
+}
+
+fn printed(text: &str) -> String {
+    String::from_utf8(program(&Rules::paper(), text.as_bytes())).unwrap()
+}
+
+#[test]
+fn week_26() {
+    let text = "week sample original monitor\n\
+        26 1 1315 1307\n26 2 1018 1054\n26 3 1447 1479\n26 4 1256 1223\n26 5 1857 1877\n";
+    let output = "week n sum range al tl run ral rtl\n26 5 -47 69 0 0 0 1 0\n";
+    assert_eq!(printed(text), output);
+    assert_eq!(printed(NAMES), OUT_NAMES);
+}
+
+#[test]
+fn refused_texts() {
+    let lines = |lines: &str| printed(&format!("{NAMES}{lines}"));
+    assert_eq!(printed(""), "refused 16 1\n");
+    assert_eq!(printed("week sample original monitor"), "refused 16 1\n");
+    assert_eq!(printed("week sample original monitor \n"), "refused 16 1\n");
+    assert_eq!(lines("1 1 0 0"), "refused 17 2\n");
+    assert_eq!(lines("1 1 0 0\n\n"), "refused 17 3\n");
+    assert_eq!(lines("1 1 00 0\n"), "refused 17 2\n");
+    assert_eq!(lines("1 1  0 0\n"), "refused 17 2\n");
+    assert_eq!(lines("1 1 0 0\r\n"), "refused 17 2\n");
+    assert_eq!(lines("1 1 100000 0\n"), "refused 17 2\n");
+    assert_eq!(lines("1 1 99999 0\n"), "refused 21 2\n");
+    assert_eq!(lines("1 2 0 0\n"), "refused 18 2\n");
+    assert_eq!(lines("1 1 0 0\n1 1 0 0\n"), "refused 18 3\n");
+    assert_eq!(lines("0 1 0 0\n"), "refused 19 2\n");
+    assert_eq!(lines("0 2 0 0\n"), "refused 18 2\n");
+    assert_eq!(lines("10000 1 0 0\n"), "refused 19 2\n");
+    assert_eq!(lines("2 1 0 0\n1 1 0 0\n"), "refused 19 3\n");
+    let six = "3 1 0 0\n3 2 0 0\n3 3 0 0\n3 4 0 0\n3 5 0 0\n3 6 0 0\n";
+    assert_eq!(lines(six), "refused 18 7\n");
+    assert_eq!(lines("1 1 10001 0\n"), "refused 21 2\n");
+    assert_eq!(printed(&"x".repeat(65_537)), "refused 15 0\n");
+    assert_eq!(printed(&"x".repeat(65_536)), "refused 16 1\n");
+}
+
+#[test]
+fn a_text_needs_forty_bytes_a_line() {
+    let rules = Rules::paper();
+    let text = format!("{NAMES}1 1 0 0\n2 1 0 0\n");
+    let charted = |bytes: usize| {
+        let answer = grain_model::text::chart_text(&rules, text.as_bytes(), &mut vec![0; bytes]);
+        answer.map_err(|refusal| (refusal.number, refusal.line))
+    };
+    assert_eq!(charted(119), Err((22, 0)));
+    assert_eq!(
+        charted(120),
+        Ok(OUT_NAMES.len() + 2 * "1 1 0 0 0 0 0 0 0\n".len())
+    );
+}
+
+/// Old sets are ignored by the tests but still held, and the book says the same.
+#[test]
+fn the_book_agrees() {
+    let rules = Rules::paper();
+    let mut book = Book::new(0);
+    let mut station = Station::fresh(0);
+    let entries = [
+        (0, 100),
+        (0, 40),
+        (14, 60),
+        (15, 60),
+        (29, 50),
+        (29, 50),
+        (29, 100),
+        (29, -60),
+    ];
+    for (day, s) in entries {
+        let intercept = station.lines[0].intercept as i32;
+        let numbers = wheat_sheet(s, intercept);
+        let judged = station.sheet(&rules, day, 0, &numbers).unwrap();
+        assert_eq!(book.sheet(&rules, day, 0, &numbers), Ok(judged.outcome));
+        assert_eq!(book.intercept(0), station.lines[0].intercept);
+        assert_eq!(book.phase(0), station.lines[0].phase);
+        let held = station.lines[0].sets();
+        assert_eq!(book.past(0)[..held.len()], *held);
+    }
+    assert_eq!(station.lines[0].phase, Phase::Open);
+}

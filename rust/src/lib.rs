@@ -1,0 +1,18 @@
+//! Safe Rust types over the measuring core of a grain laboratory service: analyser readings,
+//! reference sheets and intercepts, market tests, control charts.
+//!
+//! A [`Station`] takes reference sheets, repairs and market tests; a [`Chart`] takes weekly sets of
+//! monitor samples; [`chart_text`] charts a whole text. A call answers its result or a [`Refusal`],
+//! which has a number and a message. Quantities are whole hundredths of a percent unless tenths are
+//! named. The rules themselves are in the core, which this crate links as a static library.
+
+#![deny(unsafe_op_in_unsafe_fn)]
+
+mod chart;
+pub mod ffi;
+mod refusal;
+mod station;
+
+pub use chart::{Chart, ChartValues, TextRefusal, chart_text, chart_text_into};
+pub use refusal::Refusal;
+pub use station::{Basis, Certificate, Line, Outcome, PastSet, Phase, Scan, Station, reading};

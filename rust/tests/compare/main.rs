@@ -1,0 +1,161 @@
+//! Compares the core, through its C interface and through the safe wrapper, with the independent
+//! model: after every call the answer, the state and every place of the lent buffers.
+//!
+//! `GRAIN_DAMAGE=n` runs the comparison with the n-th number of the model off by one, to see it
+//! fail. `GRAIN_SEED=n` takes another seed.
+
+mod charts;
+mod damaged;
+mod encode;
+mod lent;
+mod lists;
+mod met;
+mod misuse;
+mod readings;
+mod rng;
+mod stations;
+mod texts;
+mod unsound;
+
+use std::env;
+use std::io::Write;
+
+use grain_model::Rules;
+use lent::Difference;
+use stations::Trial;
+
+/// How much is compared.
+struct Extent {
+    station_lists: usize,
+    chart_lists: usize,
+    texts: usize,
+    long_texts: usize,
+    handed_in: usize,
+    random_floats: usize,
+    float_step: usize,
+}
+
+const FULL: Extent = Extent {
+    station_lists: 8_000,
+    chart_lists: 5_000,
+    texts: 30_000,
+    long_texts: 300,
+    handed_in: 8_000,
+    random_floats: 100,
+    float_step: 1,
+};
+
+/// Enough to notice any one number off by one.
+const SMALL: Extent = Extent {
+    station_lists: 600,
+    chart_lists: 300,
+    texts: 400,
+    long_texts: 2,
+    handed_in: 600,
+    random_floats: 1,
+    float_step: 100,
+};
+
+/// Says something past the test harness's capture.
+fn say(line: &str) {
+    let _ = writeln!(std::io::stdout().lock(), "{line}");
+}
+
+/// All comparisons.
+fn compare(trial: &mut Trial, extent: &Extent) -> Result<(), Difference> {
+    lists::openings(trial)?;
+    readings::sample(trial, extent.random_floats, extent.float_step)?;
+    for _ in 0..extent.station_lists {
+        lists::list(trial, 60)?;
+    }
+    for _ in 0..extent.handed_in {
+        unsound::unsound_station(trial)?;
+        unsound::spare_places(trial)?;
+        unsound::any_station(trial)?;
+        unsound::unsound_chart(trial)?;
+        unsound::spare_chart_places(trial)?;
+        unsound::any_chart(trial)?;
+        misuse::single(trial)?;
+    }
+    for round in 0..extent.handed_in {
+        unsound::one_place(trial, round % encode::STATION)?;
+        unsound::one_chart_place(trial, round % encode::CHART)?;
+    }
+    for _ in 0..extent.chart_lists {
+        charts::list(trial, 20)?;
+    }
+    for _ in 0..extent.texts {
+        texts::single(trial)?;
+    }
+    for _ in 0..extent.long_texts {
+        texts::long(trial)?;
+    }
+    texts::particular(trial)?;
+    texts::longest(trial)
+}
+
+const SEED: u64 = 0x6772_6169_6E01;
+
+#[test]
+fn every_call_agrees() {
+    let mut rules = Rules::paper();
+    if let Ok(place) = env::var("GRAIN_DAMAGE") {
+        let place: usize = place.parse().expect("GRAIN_DAMAGE is a number from 1");
+        let (name, damaged) = damaged::rules(place - 1, 1).expect("no such number");
+        say(&format!("the model is damaged: {name}"));
+        rules = damaged;
+    }
+    let seed = match env::var("GRAIN_SEED") {
+        Ok(seed) => seed.parse().expect("GRAIN_SEED is a number"),
+        Err(_) => SEED,
+    };
+    say(&format!("seed {seed}"));
+    let mut trial = Trial::new(rules, seed);
+    if let Err(Difference(difference)) = compare(&mut trial, &FULL) {
+        panic!("after {} calls: {difference}", trial.met.calls());
+    }
+    let never = trial.met.report();
+    assert!(never.is_empty(), "never met: {never:?}");
+    assert!(trial.met.calls() >= 200_000, "too few calls");
+}
+
+/// The comparison notices every number of the model being one too high or too low.
+#[test]
+fn a_damaged_model_is_caught() {
+    let mut missed = Vec::new();
+    let mut caught = 0;
+    for by in [1, -1] {
+        for place in 0.. {
+            let Some((name, rules)) = damaged::rules(place, by) else {
+                break;
+            };
+            match compare(&mut Trial::new(rules, SEED), &SMALL) {
+                Ok(()) => missed.push(name),
+                Err(_) => caught += 1,
+            }
+        }
+    }
+    say(&format!("damaged models caught: {caught}"));
+    assert!(missed.is_empty(), "not noticed: {missed:?}");
+    assert!(compare(&mut Trial::new(Rules::paper(), SEED), &SMALL).is_ok());
+}
+
+/// Every float there is, by the C interface. Takes minutes: `cargo test --release -- --ignored`.
+#[test]
+#[ignore = "takes minutes"]
+fn all_floats() {
+    let mut accepted = 0_u64;
+    for bits in 0..=u32::MAX {
+        let mut hundredths = -7;
+        let float = f32::from_bits(bits);
+        // SAFETY: one place is lent.
+        let code = unsafe { grain::ffi::grain_reading(float, &mut hundredths, 1) };
+        let (expected, place) = match grain_model::reading(bits) {
+            Ok(reading) => (grain::ffi::OK, reading as i32),
+            Err(number) => (i32::from(number), -7),
+        };
+        assert_eq!((code, hundredths), (expected, place), "{bits:08X}");
+        accepted += u64::from(code == grain::ffi::OK);
+    }
+    say(&format!("all floats agree, {accepted} of them read"));
+}

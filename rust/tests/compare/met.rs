@@ -1,0 +1,241 @@
+//! Counts of what the compared calls met: each kind of call, each refusal number, each branch.
+
+use std::collections::BTreeMap;
+use std::io::Write;
+
+pub struct Met {
+    calls: BTreeMap<&'static str, Count>,
+    branches: BTreeMap<&'static str, u64>,
+}
+
+/// The calls with the refusal numbers that each can answer. Every one of them must be met.
+const CALLS: &[(&str, &[usize])] = &[
+    ("reading", &[9]),
+    ("open", &[1]),
+    ("sheet", &[0, 2, 3, 4, 5, 6, 7]),
+    ("repair", &[0, 2]),
+    ("market", &[0, 2, 3, 8, 9, 10, 11, 12, 13, 14]),
+    ("chart open", &[1]),
+    ("chart set", &[0, 19, 20, 21, 22]),
+    ("chart text", &[15, 16, 17, 18, 19, 21, 22]),
+    ("misuse", &[]),
+];
+
+/// How often a call was compared, and its answers.
+#[derive(Clone, Copy, Default)]
+struct Count {
+    compared: u64,
+    refused: [u64; 23],
+}
+
+/// The branches, each of which must be met. The generators and comparisons name them.
+const BRANCHES: &[&str] = &[
+    // Readings.
+    "reading: an exact half goes up",
+    "reading: minus zero",
+    "reading: not a number",
+    "reading: below zero",
+    "reading: above 100",
+    "reading: infinite",
+    "reading: subnormal",
+    "reading: 100",
+    // Sheets.
+    "sheet: no third at the pair limit",
+    "sheet: third due beside the pair limit",
+    "sheet: pair first-second of three",
+    "sheet: pair first-third",
+    "sheet: pair second-third",
+    "sheet: equal spreads",
+    "sheet: deviating sample kept, range within",
+    "sheet: deviation at twice the sample limit",
+    "sheet: again round",
+    "sheet: again pair kept",
+    "sheet: some samples dropped",
+    "sheet: shut, nothing kept, new line",
+    "sheet: shut, nothing kept, open line",
+    "sheet: shut, nothing kept, check due line",
+    "sheet: one exceeded",
+    "sheet: two exceeded",
+    "sheet: three exceeded",
+    "sheet: five exceeded",
+    "sheet: check exceeded",
+    "sheet: shut at the bound, one",
+    "sheet: shut at the bound, two",
+    "sheet: shut at the bound, three",
+    "sheet: shut at the bound, five",
+    "sheet: shut at the bound, check",
+    "sheet: adjusted to the bound itself",
+    "sheet: average rounded at a half",
+    "sheet: opens a new line",
+    "sheet: joins an open line",
+    "sheet: opens a check due line",
+    "sheet: at the one limit",
+    "sheet: at the two limit",
+    "sheet: at the three limit",
+    "sheet: at the five limit",
+    "sheet: at the check limit",
+    "sheet: oldest of four leaves",
+    "sheet: zero breaks the five",
+    "sheet: signs break the five",
+    "sheet: a set 14 days old counts",
+    "sheet: a set 15 days old is ignored",
+    "sheet: on the last day",
+    "sheet: line 0",
+    "sheet: line 1",
+    "sheet: line 2",
+    // Repairs.
+    "repair: new line",
+    "repair: open line",
+    "repair: check due line",
+    // Market tests.
+    "market: certified, wheat",
+    "market: certified, corn protein",
+    "market: certified, corn oil",
+    "market: certified, corn starch",
+    "market: standard basis",
+    "market: dry basis",
+    "market: specified basis",
+    "market: as-is basis",
+    "market: basis 0 or 5000 given",
+    "market: newest set 7 days old",
+    "market: newest set 8 days old",
+    "market: h is 0",
+    "market: h is 10000",
+    "market: value at B is 10000",
+    "market: fault on a line that isn't open",
+    "market: other floats of the corn set damaged",
+    "market: another grain's scan",
+    // Stations handed in.
+    "station: row doesn't exist",
+    "station: day above 99999",
+    "station: intercept out of bounds",
+    "station: open without a set",
+    "station: past set on a line that isn't open",
+    "station: more than four held",
+    "station: days rise",
+    "station: set after the station's day",
+    "station: N odd",
+    "station: N out of bounds",
+    "station: S out of bounds",
+    "station: no encoding",
+    "station: no encoding in a spare place",
+    "station: spare places filled, accepted",
+    "station: any numbers",
+    // Chart sets.
+    "chart: average absolute above",
+    "chart: average absolute below",
+    "chart: beside the average absolute",
+    "chart: tolerance above",
+    "chart: tolerance below",
+    "chart: tolerance on both sides",
+    "chart: beside the tolerance",
+    "chart: run of three previous",
+    "chart: run of four previous",
+    "chart: run leaves a set out",
+    "chart: run above",
+    "chart: run below",
+    "chart: mean at the run limit",
+    "chart: range absolute",
+    "chart: beside the range absolute",
+    "chart: range tolerance",
+    "chart: beside the range tolerance",
+    "chart: 1 pair",
+    "chart: 2 pairs",
+    "chart: 3 pairs",
+    "chart: 4 pairs",
+    "chart: 5 pairs",
+    "chart: buffer of 40 bytes",
+    "chart: last week 9999",
+    "chart: row 0",
+    "chart: row 1",
+    "chart: row 2",
+    "chart: row 3",
+    // Charts handed in.
+    "chart: row doesn't exist",
+    "chart: last week above 9999",
+    "chart: more than four held",
+    "chart: count out of bounds",
+    "chart: sum out of bounds",
+    "chart: range out of bounds",
+    "chart: no encoding",
+    "chart: no encoding in a spare place",
+    "chart: spare places filled, accepted",
+    "chart: any numbers",
+    // Texts.
+    "text: names line alone",
+    "text: accepted",
+    "text: exactly 65536 bytes",
+    "text: last line without line feed",
+    "text: buffer of 40 bytes a line",
+    // Misuse.
+    "misuse: state array too short",
+    "misuse: result array too short",
+    "misuse: no such kind of basis",
+];
+
+impl Met {
+    pub fn new() -> Met {
+        let count = |(name, _): &(&'static str, _)| (*name, Count::default());
+        Met {
+            calls: CALLS.iter().map(count).collect(),
+            branches: BRANCHES.iter().map(|&name| (name, 0)).collect(),
+        }
+    }
+
+    /// A call whose answer, state and buffers were compared.
+    pub fn call(&mut self, name: &'static str, refusal: Option<u8>) {
+        let count = self.calls.get_mut(name).expect(name);
+        count.compared += 1;
+        if let Some(number) = refusal {
+            count.refused[usize::from(number)] += 1;
+        }
+    }
+
+    pub fn branch(&mut self, name: &'static str) {
+        *self.branches.get_mut(name).expect(name) += 1;
+    }
+
+    pub fn branch_if(&mut self, met: bool, name: &'static str) {
+        if met {
+            self.branch(name);
+        }
+    }
+
+    /// How often a refusal number was met.
+    pub fn refused(&self, number: usize) -> u64 {
+        self.calls.values().map(|count| count.refused[number]).sum()
+    }
+
+    pub fn calls(&self) -> u64 {
+        self.calls.values().map(|count| count.compared).sum()
+    }
+
+    /// Prints all counts, past the test harness's capture. Gives what was never met.
+    pub fn report(&self) -> Vec<String> {
+        let mut counts = Vec::new();
+        for (name, numbers) in CALLS {
+            let count = self.calls[name];
+            counts.push((format!("call: {name}"), count.compared));
+            let refused = |&number: &usize| {
+                (
+                    format!("call: {name}, refusal {number}"),
+                    count.refused[number],
+                )
+            };
+            counts.extend(numbers.iter().map(refused));
+        }
+        counts.extend((0..23).map(|number| (format!("refusal {number}"), self.refused(number))));
+        let branches = BRANCHES
+            .iter()
+            .map(|name| ((*name).to_string(), self.branches[name]));
+        counts.extend(branches);
+        let line = |(name, times): &(String, u64)| format!("{times:>10}  {name}\n");
+        let lines: String = counts.iter().map(line).collect();
+        let total = format!("compared calls: {}\n", self.calls());
+        let _ = std::io::stdout()
+            .lock()
+            .write_all((total + &lines).as_bytes());
+        let never = counts.into_iter().filter(|(_, times)| *times == 0);
+        never.map(|(name, _)| name).collect()
+    }
+}
