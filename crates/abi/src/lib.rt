@@ -1,5 +1,6 @@
 // The exported functions, for C and Rust (include/grain.h has their declarations). State lives in the caller's array of int32_t; whatever
-// stands there is answered, and a refusal writes nothing.
+// stands there is answered. A refusal leaves the state and the results as they were; a refused opening writes a fresh state of row 0, and a
+// refused text its line.
 pub mod charts;
 
 use encoding::stations;

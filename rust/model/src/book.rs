@@ -3,7 +3,7 @@
 use crate::Refusal;
 use crate::line::{self, Verdict};
 use crate::market::{self, Basis, Certificate, Request, Scan};
-use crate::rules::{Product, Rules};
+use crate::rules::Rules;
 use crate::sheet::{self, Outcome};
 use crate::station::{PastSet, Phase};
 
@@ -79,24 +79,6 @@ impl Book {
         self.touching(line).map_while(met).collect()
     }
 
-    /// Number 2, by the book's day.
-    fn called_on(&self, rules: &Rules, day: u32) -> Result<i64, Refusal> {
-        let day = i64::from(day);
-        if day < self.day || day > rules.last_day {
-            return Err(2);
-        }
-        Ok(day)
-    }
-
-    /// The book's row and the asked line. Number 3.
-    fn asked<'a>(&self, rules: &'a Rules, line: u64) -> Result<(&'a Product, usize), Refusal> {
-        let product = &rules.products[self.row as usize];
-        match usize::try_from(line) {
-            Ok(line) if line < product.lines.len() => Ok((product, line)),
-            _ => Err(3),
-        }
-    }
-
     pub fn sheet(
         &mut self,
         rules: &Rules,
@@ -104,8 +86,8 @@ impl Book {
         line: u64,
         numbers: &[i32],
     ) -> Result<Outcome, Refusal> {
-        let day = self.called_on(rules, day)?;
-        let (product, line) = self.asked(rules, line)?;
+        let day = rules.day(self.day, day)?;
+        let (product, line) = rules.asked(self.row, line)?;
         let limits = &product.lines[line];
         let intercept = self.intercept(line);
         let sums = sheet::sums(rules, product.samples, limits, intercept, numbers)?;
@@ -131,7 +113,7 @@ impl Book {
     }
 
     pub fn repair(&mut self, rules: &Rules, day: u32) -> Result<(), Refusal> {
-        self.day = self.called_on(rules, day)?;
+        self.day = rules.day(self.day, day)?;
         self.entries.push(Entry::Repair);
         Ok(())
     }
@@ -144,8 +126,8 @@ impl Book {
         scan: Scan,
         basis: Basis,
     ) -> Result<Certificate, Refusal> {
-        let day = self.called_on(rules, day)?;
-        let (product, line) = self.asked(rules, line)?;
+        let day = rules.day(self.day, day)?;
+        let (product, line) = rules.asked(self.row, line)?;
         let request = Request {
             row: self.row,
             product,

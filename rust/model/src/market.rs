@@ -121,11 +121,7 @@ impl Station {
         basis: Basis,
     ) -> Result<Certificate, Refusal> {
         let day = self.called_on(rules, day)?;
-        let product = rules.product(self.row).ok_or(0)?;
-        let place = usize::try_from(line).map_err(|_| 3)?;
-        if place >= product.lines.len() {
-            return Err(3);
-        }
+        let (product, place) = rules.asked(self.row, line)?;
         let line = &self.lines[place];
         let request = Request {
             row: self.row,

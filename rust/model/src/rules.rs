@@ -2,6 +2,8 @@
 //! "Refused calls"). They are passed to every rule, so that a comparison can show that it notices
 //! each of them being off by one.
 
+use crate::Refusal;
+
 /// "Per line: pair limit, sample limit, range limit; averages for one, two, three, five sets;
 /// check limit."
 #[derive(Clone, Debug)]
@@ -122,6 +124,25 @@ impl Rules {
     /// The product row, if it exists.
     pub fn product(&self, row: i64) -> Option<&Product> {
         self.products.get(usize::try_from(row).ok()?)
+    }
+
+    /// Number 2: "The day is below the station's day or above 99999."
+    pub(crate) fn day(&self, last: i64, day: u32) -> Result<i64, Refusal> {
+        let day = i64::from(day);
+        if day < last || day > self.last_day {
+            return Err(2);
+        }
+        Ok(day)
+    }
+
+    /// The row and the asked line. Number 3: "The grain doesn't have that line."
+    pub(crate) fn asked(&self, row: i64, line: u64) -> Result<(&Product, usize), Refusal> {
+        let product = self.product(row).ok_or(0)?;
+        let line = usize::try_from(line).map_err(|_| 3)?;
+        if line >= product.lines.len() {
+            return Err(3);
+        }
+        Ok((product, line))
     }
 
     /// The chart row, if it exists.

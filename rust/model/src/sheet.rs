@@ -188,10 +188,8 @@ impl Station {
         numbers: &[i32],
     ) -> Result<Judged, Refusal> {
         let day = self.called_on(rules, day)?;
-        let product = rules.product(self.row).ok_or(0)?;
-        // 3: "The grain doesn't have that line."
-        let place = usize::try_from(line).map_err(|_| 3)?;
-        let limits = product.lines.get(place).ok_or(3)?;
+        let (product, place) = rules.asked(self.row, line)?;
+        let limits = &product.lines[place];
         let line = &mut self.lines[place];
         let sums = sums(rules, product.samples, limits, line.intercept, numbers)?;
         let set = PastSet {

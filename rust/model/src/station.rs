@@ -119,17 +119,12 @@ impl Station {
                 .all(|line| line.sound(rules, product.samples, self.day))
     }
 
-    /// Number 0: "The station or chart handed in isn't sound." Number 2: "The day is below the
-    /// station's day or above 99999."
+    /// Number 0: "The station or chart handed in isn't sound." Then number 2.
     pub(crate) fn called_on(&self, rules: &Rules, day: u32) -> Result<i64, Refusal> {
         if !self.sound(rules) {
             return Err(0);
         }
-        let day = i64::from(day);
-        if day < self.day || day > rules.last_day {
-            return Err(2);
-        }
-        Ok(day)
+        rules.day(self.day, day)
     }
 
     /// "A repair (or new slope), which names its day and touches all lines, empties every line's
