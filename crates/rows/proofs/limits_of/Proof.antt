@@ -1,7 +1,7 @@
 use mathlib.Core.Path.{_∙_, ap}
 use borrow.Author.Needs.{needs}
 use Rattle.rules.specs.Rows.{Row, limitsOf}
-use Rattle.rows.specs.Lines.{limitsIn}
+use Rattle.limits.specs.Lines.{limitsIn}
 use Rattle.rows.proofs.RowLaws.{row-wheat, row-corn}
 use Rattle.rows.proofs.limits_of.Statement.{statement}
 use Rattle.rows.proofs.limits_of.Tie as tie

@@ -1,10 +1,10 @@
 use mathlib.Core.Path.{_∙_, sym, ap}
 use borrow.Author.Needs.{needs}
 use Rattle.rules.specs.Rows.{wheat}
-use Rattle.rows.specs.Lines.{limitsIn}
-use Rattle.rows.proofs.RowLaws.{past-wheat}
-use Rattle.rows.proofs.wheat_limits.Statement.{statement}
-use Rattle.rows.proofs.wheat_limits.Tie as tie
+use Rattle.limits.specs.Lines.{limitsIn}
+use Rattle.limits.proofs.LineLaws.{past-wheat}
+use Rattle.limits.proofs.wheat_limits.Statement.{statement}
+use Rattle.limits.proofs.wheat_limits.Tie as tie
 
 line-limits-requires : tie.Need-line-limits-requires
 line-limits-requires c κs = search needs
