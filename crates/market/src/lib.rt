@@ -102,7 +102,7 @@ fn answer(s: Station, day: u32, line: usize, scan: Scan, basis: Basis) -> Market
     if !soundness::is_sound(s) {
         return MarketAnswer::Refused(Refusal::UnsoundStation);
     }
-    if station::is_bad_day(s.day, day) {
+    if soundness::is_bad_day(s.day, day) {
         return MarketAnswer::Refused(Refusal::BadDay);
     }
     if rows::line_count(s.row) <= line {

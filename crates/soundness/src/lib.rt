@@ -1,4 +1,4 @@
-// Number 0: whether a station handed in is sound (paper 01, "Refused calls").
+// Numbers 0 and 2, which look at the station alone: whether a station handed in is sound, and whether a call's day serves (paper 01, "Refused calls").
 use rules::Line;
 use rules::PastSet;
 use rules::Phase;
@@ -11,6 +11,7 @@ ghost use Prim.Native.Nat.{_≤_};
 ghost use lib.ListN.{take};
 ghost use Rattle.whole.specs.Lists.{all};
 ghost use Rattle.rules.specs.Held.{phaseWord};
+ghost use Rattle.rules.specs.Judging.{dayCheck};
 ghost use Rattle.rules.specs.Soundness.{daysFall, soundSet, soundHeld, soundLine, sound};
 ghost use Rattle.soundness.specs.Fall.{fallen};
 
@@ -117,4 +118,11 @@ pub fn is_sound(s: Station) -> bool
         rows::line_count(s.row),
         lines,
     )
+}
+
+// Number 2: the day is below that of the last accepted call or above 99999.
+pub fn is_bad_day(last: u32, day: u32) -> bool
+    ensures { λ r. ⌜ r ≡ dayCheck last day .applies ⌝ }
+{
+    flags::either(day < last, 99999 < day)
 }

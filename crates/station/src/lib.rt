@@ -12,12 +12,10 @@ use rules::SheetResult;
 use rules::Station;
 use sheet::Judged;
 use whole::Int;
-use whole::flags;
 ghost use mathlib.Core.Path.{_≡_};
 ghost use mathlib.Core.Bool.{true};
 ghost use Prim.Native.Nat.{_<_};
 ghost use Rattle.rules.specs.Rows.{lineCount};
-ghost use Rattle.rules.specs.Judging.{dayCheck};
 ghost use Rattle.rules.specs.Soundness.{sound};
 ghost use Rattle.rules.specs.Stations.{freshStation, openOf, sheetOf, repairOf};
 ghost use Rattle.rules.specs.declared.SheetAnswer.{SheetAnswer};
@@ -49,13 +47,6 @@ pub fn open(row: usize) -> Opening
         station,
         answer: OpenAnswer::Opened,
     }
-}
-
-// Number 2: the day is below that of the last accepted call or above 99999.
-pub fn is_bad_day(last: u32, day: u32) -> bool
-    ensures { λ r. ⌜ r ≡ dayCheck last day .applies ⌝ }
-{
-    flags::either(day < last, 99999 < day)
 }
 
 // An accepted sheet: the line after the set, the day, and the outcome.
@@ -102,7 +93,7 @@ pub fn sheet(s: Station, day: u32, line: usize, numbers: &[i32]) -> SheetResult
     if !soundness::is_sound(s) {
         return refuse_sheet(s, Refusal::UnsoundStation);
     }
-    if is_bad_day(s.day, day) {
+    if soundness::is_bad_day(s.day, day) {
         return refuse_sheet(s, Refusal::BadDay);
     }
     if rows::line_count(s.row) <= line {
@@ -131,7 +122,7 @@ pub fn repair(s: Station, day: u32) -> RepairResult
     if !soundness::is_sound(s) {
         return refuse_repair(s, Refusal::UnsoundStation);
     }
-    if is_bad_day(s.day, day) {
+    if soundness::is_bad_day(s.day, day) {
         return refuse_repair(s, Refusal::BadDay);
     }
     let all = s.lines;

@@ -1,5 +1,5 @@
-use Rattle.station.proofs.is_bad_day.Statement.{statement}
-use Rattle.station.proofs.is_bad_day.Tie as tie
+use Rattle.soundness.proofs.is_bad_day.Statement.{statement}
+use Rattle.soundness.proofs.is_bad_day.Tie as tie
 
 either-requires : tie.Need-either-requires
 either-requires c κs = tt
