@@ -24,10 +24,10 @@ use Rattle.rules.specs.declared.Basis.{Basis}
 use Rattle.rules.specs.declared.Station.{Station}
 use Rattle.rules.specs.declared.Certificate.{Certificate}
 use Rattle.rules.specs.declared.MarketAnswer.the-variants.{Certified, Refused}
-use Rattle.market.specs.Scans.{pickedOf}
+use Rattle.scans.specs.Scans.{pickedOf}
 use Rattle.market.specs.Answers.{answerBy, certificateBy, certifiedOf, valuedOf, testedOf, answeredOf, finished}
-use Rattle.market.specs.declared.scans.Picked.the-variants.{Value, Wrong}
-use Rattle.market.proofs.ScanLaws.{picked-value, picked-wrong}
+use Rattle.scans.specs.declared.Picked.the-variants.{Value, Wrong}
+use Rattle.scans.proofs.ScanLaws.{picked-value, picked-wrong}
 
 -- ---- numbers 12 to 14
 

@@ -1,3 +1,1 @@
-pub mod ScanLaws
-pub mod FigureLaws
 pub mod AnswerLaws

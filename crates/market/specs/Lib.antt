@@ -1,3 +1,2 @@
 -- What the contracts of the market test's functions cite, over the definitions of `rules`.
-pub mod Scans
 pub mod Answers

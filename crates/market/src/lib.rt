@@ -1,7 +1,4 @@
 // Market tests and certificates (paper 01, "Market test and moisture basis").
-mod figures;
-mod scans;
-
 use reading::Reading;
 use rules::Basis;
 use rules::Certificate;

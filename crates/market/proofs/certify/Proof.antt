@@ -9,7 +9,7 @@ use borrow.Author.Tests.{not-true, not-false}
 use Rattle.whole.proofs.Read.{back, back-in}
 use Rattle.rules.specs.Held.{lineValues, phaseWord}
 use Rattle.rules.specs.Markets.{isOpen, newestDay, tooHigh, tenths, tenthsAt}
-use Rattle.market.proofs.FigureLaws.{in-range}
+use Rattle.figures.proofs.FigureLaws.{in-range}
 use Rattle.market.proofs.AnswerLaws.{not-open, too-old, too-high, certified}
 use borrow.Author.Needs.{needs}
 use Rattle.market.proofs.certify.Statement.{statement}

@@ -5,8 +5,8 @@ use mir.Val.{SFits}
 use Rattle.whole.proofs.Read.{back}
 use Rattle.rules.specs.Markets.{basisOf}
 use borrow.Author.Needs.{needs}
-use Rattle.market.proofs.figures.basis_value.Statement.{statement}
-use Rattle.market.proofs.figures.basis_value.Tie as tie
+use Rattle.figures.proofs.basis_value.Statement.{statement}
+use Rattle.figures.proofs.basis_value.Tie as tie
 
 enum-told : tie.Need-enum-told
 enum-told c = search needs

@@ -1,8 +1,8 @@
 use mathlib.Core.Path.{refl}
 use Rattle.rules.specs.Markets.{tenths}
 use borrow.Author.Needs.{needs}
-use Rattle.market.proofs.figures.in_tenths.Statement.{statement}
-use Rattle.market.proofs.figures.in_tenths.Tie as tie
+use Rattle.figures.proofs.in_tenths.Statement.{statement}
+use Rattle.figures.proofs.in_tenths.Tie as tie
 
 add-result : tie.Need-add-result
 add-result c = search needs

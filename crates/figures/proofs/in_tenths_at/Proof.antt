@@ -3,10 +3,10 @@ use Prim.Native.Nat.{_-_}
 use native.Mathlib.Nat.{mul-assoc}
 use native.Mathlib.Omega.{arith}
 use Rattle.rules.specs.Markets.{tenthsAt}
-use Rattle.market.proofs.FigureLaws.{product-most}
+use Rattle.figures.proofs.FigureLaws.{product-most}
 use borrow.Author.Needs.{needs}
-use Rattle.market.proofs.figures.in_tenths_at.Statement.{statement}
-use Rattle.market.proofs.figures.in_tenths_at.Tie as tie
+use Rattle.figures.proofs.in_tenths_at.Statement.{statement}
+use Rattle.figures.proofs.in_tenths_at.Tie as tie
 
 mul-result : tie.Need-mul-result
 mul-result c = search needs

@@ -1,6 +1,6 @@
-use Rattle.market.proofs.ScanLaws.{protein, oil, starch}
-use Rattle.market.proofs.scans.corn_value.Statement.{statement}
-use Rattle.market.proofs.scans.corn_value.Tie as tie
+use Rattle.scans.proofs.ScanLaws.{protein, oil, starch}
+use Rattle.scans.proofs.corn_value.Statement.{statement}
+use Rattle.scans.proofs.corn_value.Tie as tie
 
 returns : tie.Need-returns
 returns c = protein (c .before .args .c) (c .before .args .line) (c .if1 .taken)

@@ -1,10 +1,10 @@
 use mathlib.Core.Path.{refl}
 use native.Mathlib.Omega.{arith}
 use Rattle.rules.specs.Markets.{tooHigh}
-use Rattle.market.proofs.FigureLaws.{product-most}
+use Rattle.figures.proofs.FigureLaws.{product-most}
 use borrow.Author.Needs.{needs}
-use Rattle.market.proofs.figures.is_too_high.Statement.{statement}
-use Rattle.market.proofs.figures.is_too_high.Tie as tie
+use Rattle.figures.proofs.is_too_high.Statement.{statement}
+use Rattle.figures.proofs.is_too_high.Tie as tie
 
 sub-result : tie.Need-sub-result
 sub-result c = search needs

@@ -1,11 +1,11 @@
 use mathlib.Core.Path.{_∙_, sym, ap}
 use Rattle.rules.specs.declared.Scan.{Scan}
-use Rattle.market.specs.Scans.{pickedOf}
-use Rattle.market.specs.declared.scans.Picked.{Picked}
-use Rattle.market.proofs.ScanLaws.{wheat-here, wheat-wrong, corn-here, corn-wrong, fault-wrong}
+use Rattle.scans.specs.Scans.{pickedOf}
+use Rattle.scans.specs.declared.Picked.{Picked}
+use Rattle.scans.proofs.ScanLaws.{wheat-here, wheat-wrong, corn-here, corn-wrong, fault-wrong}
 use borrow.Author.Needs.{needs}
-use Rattle.market.proofs.scans.pick.Statement.{statement}
-use Rattle.market.proofs.scans.pick.Tie as tie
+use Rattle.scans.proofs.pick.Statement.{statement}
+use Rattle.scans.proofs.pick.Tie as tie
 
 abbrev picked : tie.Start → Scan → Picked
 picked s scan = pickedOf (s .args .row) scan (s .args .line)

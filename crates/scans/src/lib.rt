@@ -3,7 +3,7 @@ use rules::CornSet;
 use rules::Scan;
 ghost use mathlib.Core.Path.{_≡_};
 ghost use Rattle.rules.specs.Readings.{cornFloat};
-ghost use Rattle.market.specs.Scans.{pickedOf};
+ghost use Rattle.scans.specs.Scans.{pickedOf};
 
 pub enum Picked {
     Value(f32),
@@ -24,7 +24,7 @@ fn corn_value(c: CornSet, line: usize) -> f32
 }
 
 // The scan's float of a line, where the scan is of the row's grain.
-pub(crate) fn pick(row: usize, scan: Scan, line: usize) -> Picked
+pub fn pick(row: usize, scan: Scan, line: usize) -> Picked
     ensures { λ r. ⌜ r ≡ pickedOf row scan line ⌝ }
 {
     match scan {

@@ -10,7 +10,7 @@ ghost use Rattle.rules.specs.Markets.{basisOf, newestDay, within, tooHigh, tent
 ghost use Rattle.averages.specs.Ranges.{Held};
 
 // B: standard is A, dry is 0, specified and as-is name it.
-pub(crate) fn basis_value(a: u32, basis: Basis) -> Int
+pub fn basis_value(a: u32, basis: Basis) -> Int
     requires { ⌜ a < 10000 ⌝ }
     ensures { λ r. ⌜ r .z ≡ basisOf a basis ⌝ }
 {
@@ -23,7 +23,7 @@ pub(crate) fn basis_value(a: u32, basis: Basis) -> Int
 }
 
 // A value of 0..high.
-pub(crate) fn up_to(high: u32, z: Int) -> bool
+pub fn up_to(high: u32, z: Int) -> bool
     requires { ⌜ high ≤ 10000 ⌝ }
     ensures { λ r. ⌜ r ≡ within 0 high (z .z) ⌝ }
 {
@@ -34,7 +34,7 @@ pub(crate) fn up_to(high: u32, z: Int) -> bool
 }
 
 // The day of the newest set.
-pub(crate) fn newest_day(held: usize, past: [PastSet; 4]) -> u32
+pub fn newest_day(held: usize, past: [PastSet; 4]) -> u32
     requires { ⌜ Held held past ⌝ }
     ensures { λ r. ⌜ (r ≡ newestDay (take held past)) × (r ≤ 99999) ⌝ }
 {
@@ -46,7 +46,7 @@ pub(crate) fn newest_day(held: usize, past: [PastSet; 4]) -> u32
 }
 
 // h times (10000 - B) / (10000 - A) is above 10000.
-pub(crate) fn is_too_high(a: u32, b: u32, h: u32) -> bool
+pub fn is_too_high(a: u32, b: u32, h: u32) -> bool
     requires { ⌜ (a < 10000) × ((b ≤ 5000) × (h ≤ 10000)) ⌝ }
     ensures { λ r. ⌜ r ≡ tooHigh a b h ⌝ }
 {
@@ -54,7 +54,7 @@ pub(crate) fn is_too_high(a: u32, b: u32, h: u32) -> bool
 }
 
 // h in tenths, rounded once to the nearest, halves up.
-pub(crate) fn in_tenths(h: u32) -> u32
+pub fn in_tenths(h: u32) -> u32
     requires { ⌜ h ≤ 10000 ⌝ }
     ensures { λ r. ⌜ r ≡ tenths h ⌝ }
 {
@@ -62,7 +62,7 @@ pub(crate) fn in_tenths(h: u32) -> u32
 }
 
 // h times (10000 - B) / (10000 - A) in tenths, rounded once to the nearest, halves up.
-pub(crate) fn in_tenths_at(a: u32, b: u32, h: u32) -> u32
+pub fn in_tenths_at(a: u32, b: u32, h: u32) -> u32
     requires { ⌜ (a < 10000) × ((b ≤ 5000) × (h ≤ 10000)) ⌝ }
     ensures { λ r. ⌜ r ≡ tenthsAt a b h ⌝ }
 {

@@ -3,8 +3,8 @@ use mathlib.Core.Bool.{cond}
 use Prim.Native.Nat.{ℕ}
 use Rattle.rules.specs.Readings.{scanFits, lineFloat}
 use Rattle.rules.specs.declared.Scan.{Scan}
-use Rattle.market.specs.declared.scans.Picked.{Picked}
-use Rattle.market.specs.declared.scans.Picked.the-variants.{Value, Wrong}
+use Rattle.scans.specs.declared.Picked.{Picked}
+use Rattle.scans.specs.declared.Picked.the-variants.{Value, Wrong}
 
 -- the line's float, where the scan is of the row's grain
 unfoldable pub pickedOf : ℕ → Scan → ℕ → Picked

@@ -8,8 +8,8 @@ use Rattle.rules.specs.Readings.{scanFits, cornFloat, lineFloat}
 use Rattle.rules.specs.declared.CornSet.{CornSet}
 use Rattle.rules.specs.declared.Scan.{Scan}
 use Rattle.rules.specs.declared.Scan.the-variants.{Wheat, Corn, Fault}
-use Rattle.market.specs.Scans.{pickedOf}
-use Rattle.market.specs.declared.scans.Picked.the-variants.{Value, Wrong}
+use Rattle.scans.specs.Scans.{pickedOf}
+use Rattle.scans.specs.declared.Picked.the-variants.{Value, Wrong}
 
 -- ---- the corn set's field
 

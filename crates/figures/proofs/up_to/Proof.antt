@@ -2,8 +2,8 @@ use mathlib.Core.Path.{_∙_, ap, ap₂}
 use mathlib.Core.Bool.{_&&_}
 use native.Mathlib.Omega.{arith}
 use lib.Signed.{leZ}
-use Rattle.market.proofs.figures.up_to.Statement.{statement}
-use Rattle.market.proofs.figures.up_to.Tie as tie
+use Rattle.figures.proofs.up_to.Statement.{statement}
+use Rattle.figures.proofs.up_to.Tie as tie
 
 at-most-requires : tie.Need-at-most-requires
 at-most-requires c κs = tt
