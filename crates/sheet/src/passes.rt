@@ -122,10 +122,10 @@ pub(crate) fn again_round(limits: Limits, intercept: Int, numbers: &[i32], sampl
     requires { ⌜ Fair limits (intercept .z) × Sheet samples (now numbers) ⌝ }
     ensures { λ r. ⌜ r ≡ againRound limits (intercept .z) (samplesOf (now (numbers .entry))) ⌝ }
 {
-    flags::both(
-        any_deviates(limits, intercept, numbers, samples),
-        is_wide(limits, intercept, numbers, samples),
-    )
+    if !any_deviates(limits, intercept, numbers, samples) {
+        return false;
+    }
+    is_wide(limits, intercept, numbers, samples)
 }
 
 // Number 7.
