@@ -10,8 +10,8 @@ use Rattle.whole.specs.Lists.{any}
 use Rattle.whole.proofs.Fold.{fold, Going, going-next, going-done}
 use Rattle.rules.specs.Sheets.{Sample, samplesOf, wrongNumber}
 use Rattle.whole.proofs.Elements.{none-passes}
-use Rattle.sample.specs.Samples.{sampleFrom, Measured}
-use Rattle.sample.proofs.SampleLaws.{measured}
+use Rattle.numbers.specs.Samples.{sampleFrom, Measured}
+use Rattle.numbers.proofs.SampleLaws.{measured}
 use Rattle.sheet.specs.Sheet.{blank, Sheet}
 
 -- ---- six numbers a sample

@@ -7,7 +7,7 @@ use lib.IntN.{ℤ}
 use lib.ListN.{length}
 use Rattle.whole.specs.Lists.{any}
 use Rattle.rules.specs.Sheets.{Sample, samplesOf, wrongNumber}
-use Rattle.sample.specs.Samples.{sampleFrom}
+use Rattle.numbers.specs.Samples.{sampleFrom}
 
 -- what stands for a sample past the sheet's end
 abbrev pub blank : Sample

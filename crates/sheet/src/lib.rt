@@ -8,7 +8,7 @@ use rules::Refusal;
 use whole::Int;
 ghost use mathlib.Core.Path.{_≡_};
 ghost use Prim.Native.Nat.{_≤_};
-ghost use Rattle.sample.specs.Samples.{Fair};
+ghost use Rattle.numbers.specs.Samples.{Fair};
 ghost use Rattle.sheet.specs.Judged.{judgedOf};
 
 pub fn judge(limits: Limits, intercept: Int, samples: usize, numbers: &[i32]) -> Judged

@@ -1,8 +1,7 @@
 // The whole sheet: numbers 5 to 7, the round of again pairs, and S and N, each one pass over the samples.
+use numbers::SixNumbers;
 use rules::Limits;
 use rules::Set;
-use sample::deviations;
-use sample::numbers::SixNumbers;
 use whole::Int;
 use whole::flags;
 ghost use mathlib.Core.Path.{_≡_};
@@ -12,7 +11,7 @@ ghost use lib.ListN.{length, getD};
 ghost use Rattle.whole.specs.Parts.{Within};
 ghost use Rattle.whole.specs.Lists.{any, largest, smallest};
 ghost use Rattle.rules.specs.Sheets.{samplesOf, wrongNumber, wrongThird, deviates, firstDeviation, againRound, wrongAgain};
-ghost use Rattle.sample.specs.Samples.{sampleOf, Measured, Fair};
+ghost use Rattle.numbers.specs.Samples.{sampleOf, Measured, Fair};
 ghost use Rattle.sheet.specs.Sheet.{blank, Sheet};
 ghost use Rattle.sheet.specs.Totals.{Counted, totals, wide};
 
@@ -29,7 +28,7 @@ fn sample_at(numbers: &[i32], i: usize, samples: usize) -> SixNumbers
 {
     let a = 6 * i;
     let e = a + 6;
-    sample::numbers::six_numbers(&numbers[a..e])
+    numbers::six_numbers(&numbers[a..e])
 }
 
 // Number 5.
@@ -41,7 +40,7 @@ pub(crate) fn any_wrong_number(numbers: &[i32], samples: usize) -> bool
     let mut i = 0;
     while i < samples {
         let s = sample_at(numbers, i, samples);
-        found = flags::either(found, sample::numbers::wrong_number(s));
+        found = flags::either(found, numbers::wrong_number(s));
         i += 1;
     }
     found
@@ -56,7 +55,7 @@ pub(crate) fn any_wrong_third(limits: Limits, numbers: &[i32], samples: usize) -
     let mut i = 0;
     while i < samples {
         let s = sample_at(numbers, i, samples);
-        found = flags::either(found, deviations::wrong_third(limits, s));
+        found = flags::either(found, sample::wrong_third(limits, s));
         i += 1;
     }
     found
@@ -71,7 +70,7 @@ fn any_deviates(limits: Limits, intercept: Int, numbers: &[i32], samples: usize)
     let mut i = 0;
     while i < samples {
         let s = sample_at(numbers, i, samples);
-        found = flags::either(found, deviations::first_deviates(limits, intercept, s));
+        found = flags::either(found, sample::first_deviates(limits, intercept, s));
         i += 1;
     }
     found
@@ -82,11 +81,11 @@ fn highest(limits: Limits, intercept: Int, numbers: &[i32], samples: usize) -> I
     requires { ⌜ Fair limits (intercept .z) × Sheet samples (now numbers) ⌝ }
     ensures { λ r. ⌜ (r .z ≡ largest (map (firstDeviation limits (intercept .z)) (samplesOf (now (numbers .entry))))) × Within 25000 25000 (r .z) ⌝ }
 {
-    let mut high = deviations::first_deviation(limits, intercept, sample_at(numbers, 0, samples));
+    let mut high = sample::first_deviation(limits, intercept, sample_at(numbers, 0, samples));
     let mut i = 0;
     while i < samples {
         let s = sample_at(numbers, i, samples);
-        high = whole::larger(high, deviations::first_deviation(limits, intercept, s));
+        high = whole::larger(high, sample::first_deviation(limits, intercept, s));
         i += 1;
     }
     high
@@ -97,11 +96,11 @@ fn lowest(limits: Limits, intercept: Int, numbers: &[i32], samples: usize) -> In
     requires { ⌜ Fair limits (intercept .z) × Sheet samples (now numbers) ⌝ }
     ensures { λ r. ⌜ (r .z ≡ smallest (map (firstDeviation limits (intercept .z)) (samplesOf (now (numbers .entry))))) × Within 25000 25000 (r .z) ⌝ }
 {
-    let mut low = deviations::first_deviation(limits, intercept, sample_at(numbers, 0, samples));
+    let mut low = sample::first_deviation(limits, intercept, sample_at(numbers, 0, samples));
     let mut i = 0;
     while i < samples {
         let s = sample_at(numbers, i, samples);
-        low = whole::smaller(low, deviations::first_deviation(limits, intercept, s));
+        low = whole::smaller(low, sample::first_deviation(limits, intercept, s));
         i += 1;
     }
     low
@@ -143,7 +142,7 @@ pub(crate) fn any_wrong_again(
     let mut i = 0;
     while i < samples {
         let s = sample_at(numbers, i, samples);
-        found = flags::either(found, deviations::wrong_again(limits, intercept, round, s));
+        found = flags::either(found, sample::wrong_again(limits, intercept, round, s));
         i += 1;
     }
     found
@@ -155,8 +154,8 @@ fn add_sample(limits: Limits, intercept: Int, round: bool, t: Tally, s: SixNumbe
     requires { ⌜ (Within 25000000 25000000 (t .sum .z)) × (t .count ≤ 2000) ⌝ }
     ensures { λ r. ⌜ Counted limits (intercept .z) round t (sampleOf s) r ⌝ }
 {
-    if deviations::is_kept(limits, intercept, round, s) {
-        let d = deviations::final_deviation(limits, intercept, round, s);
+    if sample::is_kept(limits, intercept, round, s) {
+        let d = sample::final_deviation(limits, intercept, round, s);
         Tally {
             sum: whole::add(t.sum, d),
             count: t.count + 2,

@@ -7,7 +7,7 @@ use Rattle.whole.proofs.Read.{rd, back-in}
 use Rattle.rules.specs.Rows.{lineCount, limitsOf}
 use Rattle.rules.proofs.RowFacts.{row-facts}
 use Rattle.rules.specs.declared.Limits.{Limits}
-use Rattle.sample.specs.Samples.{Fair}
+use Rattle.numbers.specs.Samples.{Fair}
 use Rattle.averages.specs.Ranges.{Limited}
 
 module _ (row line : ℕ) (here : line < lineCount row) where
