@@ -1,10 +1,12 @@
-// A sample's six numbers, taken from its part of the sheet, and number 5.
+// A sample's six numbers, taken from its part of the sheet, and number 5 (paper 01, "The reference sheet").
 use whole::Int;
 use whole::flags;
 ghost use mathlib.Core.Path.{_≡_};
-ghost use lib.ListN.{length};
-ghost use Rattle.rules.specs.Sheets.{isResult, absent, wrongNumber};
+ghost use Prim.Native.Nat.{_*_, _<_};
+ghost use lib.ListN.{length, getD};
+ghost use Rattle.rules.specs.Sheets.{samplesOf, isResult, absent, wrongNumber};
 ghost use Rattle.numbers.specs.Samples.{sampleOf, sampleFrom, allowed, inRanges};
+ghost use Rattle.numbers.specs.Sheet.{blank};
 
 pub struct SixNumbers {
     pub baseline: Int,
@@ -28,6 +30,16 @@ pub fn six_numbers(part: &[i32]) -> SixNumbers
         again_first: Int { z: part[4] },
         again_second: Int { z: part[5] },
     }
+}
+
+// The sample at a place of the sheet: its six numbers are a part that starts in the sheet's middle.
+pub fn sample_at(numbers: &[i32], i: usize, samples: usize) -> SixNumbers
+    requires { ⌜ (i < samples) × (length (now numbers) ≡ 6 * samples) ⌝ }
+    ensures { λ r. ⌜ sampleOf r ≡ getD (samplesOf (now (numbers .entry))) i blank ⌝ }
+{
+    let a = 6 * i;
+    let e = a + 6;
+    six_numbers(&numbers[a..e])
 }
 
 // A number of 0..10000.

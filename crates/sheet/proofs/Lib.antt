@@ -1,3 +1,2 @@
-pub mod SheetLaws
 pub mod TotalLaws
 pub mod JudgedLaws

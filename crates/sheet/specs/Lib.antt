@@ -1,4 +1,3 @@
--- What the contracts of the passes over a sheet cite, over the definitions of `rules`.
-pub mod Sheet
+-- What the contracts of a sheet's functions cite, over the definitions of `rules`.
 pub mod Totals
 pub mod Judged

@@ -1,22 +1,17 @@
--- Paper 01, rules 3 and 4: the range of the deviations, and S and N of a round.
+-- Paper 01, rule 4: S and N of a round.
 use mathlib.Core.Path.{_≡_}
 use mathlib.Core.Bool.{Bool, cond}
 use mathlib.Core.List.{List, map}
 use Prim.Native.Nat.{_+_, _*_, _≤_}
-use lib.IntN.{ℤ, pos, _+ℤ_, _-ℤ_}
-use lib.Signed.{ltZ}
+use lib.IntN.{ℤ, _+ℤ_}
 use lib.ListN.{length}
 use Rattle.whole.specs.Parts.{up, down}
-use Rattle.whole.specs.Lists.{total, largest, smallest}
+use Rattle.whole.specs.Lists.{total}
 use Rattle.rules.specs.Lists.{keep}
 use Rattle.rules.specs.Sheets.{Sample, finalDeviation, kept}
 use Rattle.rules.specs.declared.Limits.{Limits}
 use Rattle.rules.specs.declared.Set.{Set}
-use Rattle.sheet.specs.declared.passes.Tally.{Tally}
-
--- the largest minus the smallest deviation is above twice the range limit
-abbrev pub wide : Limits → List ℤ → Bool
-wide limits ds = ltZ (pos (2 * limits .range)) (largest ds -ℤ smallest ds)
+use Rattle.sheet.specs.declared.totals.Tally.{Tally}
 
 -- S and N so far
 abbrev pub asSet : Tally → Set

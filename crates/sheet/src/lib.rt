@@ -1,6 +1,6 @@
 // A sheet's numbers judged by a line's limits and intercept: numbers 4 to 7, each over the whole sheet, else S and N.
 mod answer;
-mod passes;
+mod totals;
 
 pub use answer::Judged;
 use rules::Limits;
@@ -18,15 +18,15 @@ pub fn judge(limits: Limits, intercept: Int, samples: usize, numbers: &[i32]) ->
     if numbers.len() != 6 * samples {
         return Judged::Refused(Refusal::SheetSize);
     }
-    if passes::any_wrong_number(numbers, samples) {
+    if sheet_checks::any_wrong_number(numbers, samples) {
         return Judged::Refused(Refusal::SheetNumber);
     }
-    if passes::any_wrong_third(limits, numbers, samples) {
+    if sheet_checks::any_wrong_third(limits, numbers, samples) {
         return Judged::Refused(Refusal::ThirdReading);
     }
-    let round = passes::again_round(limits, intercept, numbers, samples);
-    if passes::any_wrong_again(limits, intercept, round, numbers, samples) {
+    let round = sheet_range::again_round(limits, intercept, numbers, samples);
+    if sheet_checks::any_wrong_again(limits, intercept, round, numbers, samples) {
         return Judged::Refused(Refusal::AgainPair);
     }
-    Judged::Counted(passes::counted(limits, intercept, round, numbers, samples))
+    Judged::Counted(totals::counted(limits, intercept, round, numbers, samples))
 }
