@@ -1,28 +1,20 @@
--- Sets and tests within their ranges.
+-- Sums and tests within their ranges.
 use mathlib.Core.Path.{_≡_, refl, subst⁻¹}
 use Prim.Native.Nat.{ℕ, _+_, _*_, _≤_}
 use native.Mathlib.Nat.{le-trans, mul-le-mul-left, mul-le-mul-right}
 use native.Mathlib.Omega.{arith}
-use mathlib.Core.List.{List}
-use lib.Dec.{T, leb, leb→le}
-use lib.IntN.{ℤ}
+use lib.Dec.{T, leb}
 use Rattle.whole.proofs.PartLaws.{sum}
 use Rattle.rules.specs.Lines.{testOf, plus}
 use Rattle.rules.specs.declared.Set.{Set}
 use Rattle.rules.specs.declared.Test.{Test}
 use Rattle.rules.specs.declared.PastSet.{PastSet}
-use Rattle.averages.specs.Ranges.{SetsOf, TestFits, Held, Joined}
+use Rattle.past_sets.specs.Ranges.{SetsOf}
+use Rattle.past_sets.proofs.RangeLaws.{of-more}
+use Rattle.averages.specs.Ranges.{TestFits, Joined}
 
 pub product-le : (t : Test) → TestFits t → t .limit * t .count ≤ 60000
 product-le t h = le-trans (mul-le-mul-left (t .limit) (h .sets .few)) (mul-le-mul-right 60 (h .limit))
-
--- fewer sets are in the range of more
-pub of-more : (j k : ℕ) {sum : ℤ} {count : ℕ} → T (leb j k) → SetsOf j sum count → SetsOf k sum count
-of-more j k t s =
-    let h = leb→le j k t in
-    let a = mul-le-mul-right 132000 h in
-    let b = mul-le-mul-right 12 h in
-    record { within = omega arith; few = omega arith }
 
 -- the definition's own sum
 pub plus-joined : (set : Set) (p : PastSet) → Joined set p (plus set p)
@@ -38,6 +30,3 @@ join-some set p h j = omega arith
 -- a test made of sets
 pub test-fits : (limit k : ℕ) (set : Set) {t : Test} → t ≡ testOf limit set → limit ≤ 1000 → T (leb k 5) → SetsOf k (set .sum) (set .count) → 1 ≤ set .count → TestFits t
 test-fits limit k set e h t s c = subst⁻¹ TestFits e (record { limit = h; sets = of-more k 5 t s; some = c })
-
-pub held-less : {j k : ℕ} {past : List PastSet} → j ≤ k → Held k past → Held j past
-held-less {j} {k} h e = record { each = λ i l. e .each i (omega arith) }

@@ -1,11 +1,8 @@
--- Paper 01, "A line between sheets": the averages due in the order in which they are tested, and the average rounded.
+-- Paper 01, "A line between sheets": the averages due in the order in which they are tested.
 use mathlib.Core.Bool.{cond}
 use mathlib.Core.List.{List, [], _∷_}
 use mathlib.Core.Option.{Option, none, some}
-use Prim.Native.Nat.{ℕ, _+_}
-use lib.Dec.{leb}
-use lib.IntN.{ℤ}
-use Rattle.rules.specs.Lines.{testOf, exceeded, plus, fiveTest, firstExceeded, roundedAverage}
+use Rattle.rules.specs.Lines.{testOf, exceeded, plus, fiveTest, firstExceeded}
 use Rattle.rules.specs.declared.Limits.{Limits}
 use Rattle.rules.specs.declared.Set.{Set}
 use Rattle.rules.specs.declared.Test.{Test}
@@ -34,11 +31,3 @@ fromThree limits set (p ∷ q ∷ r ∷ s ∷ older) =
 unfoldable pub fromTwo : Limits → Set → List PastSet → Found
 fromTwo limits set [] = Nothing
 fromTwo limits set (p ∷ ps) = tried (testOf (limits .two) (plus set p)) (fromThree limits set (p ∷ ps))
-
--- one more valid set, where it is at most 14 days old
-abbrev pub oneMore : ℕ → ℕ → PastSet → ℕ
-oneMore day k p = cond (leb day (p .day + 14)) (k + 1) k
-
--- S / N rounded; a test's limit has no part in it
-abbrev pub averageOf : ℤ → ℕ → ℤ
-averageOf sum count = roundedAverage (record { limit = 0; sum = sum; count = count })

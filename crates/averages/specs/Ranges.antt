@@ -1,23 +1,16 @@
--- The ranges of S and N in which nothing wraps (paper 01, "Refused calls": N is at most twice six samples, |S| at most 11000 times N).
+-- The tests, limits and sums in whose ranges nothing wraps.
 use mathlib.Core.Path.{_≡_}
 use mathlib.Core.List.{List}
-use Prim.Native.Nat.{ℕ, _+_, _*_, _≤_, _<_}
-use lib.IntN.{ℤ}
-use lib.ListN.{getD}
-use Rattle.whole.specs.Parts.{up, down, Within}
+use Prim.Native.Nat.{ℕ, _+_, _≤_}
+use Rattle.whole.specs.Parts.{up, down}
 use Rattle.rules.specs.Lines.{plus}
-use Rattle.rules.specs.Held.{noSet}
 use Rattle.rules.specs.declared.Limits.{Limits}
 use Rattle.rules.specs.declared.Set.{Set}
 use Rattle.rules.specs.declared.Test.{Test}
 use Rattle.rules.specs.declared.PastSet.{PastSet}
+use Rattle.past_sets.specs.Ranges.{SetsOf, Held}
 use Rattle.averages.specs.declared.answer.Found.{Found}
 use Rattle.averages.specs.declared.answer.Found.the-variants.{Exceeded, Nothing}
-
--- S and N of at most k sets together
-pub record SetsOf (k : ℕ) (sum : ℤ) (count : ℕ) : Type 0 where
-  pub within : Within (k * 132000) (k * 132000) sum
-  pub few : count ≤ k * 12
 
 -- a test of at most five sets, of which N is above 0
 pub record TestFits (t : Test) : Type 0 where
@@ -36,14 +29,6 @@ pub record Limited (l : Limits) : Type 0 where
   pub three : l .three ≤ 1000
   pub five : l .five ≤ 1000
   pub check : l .check ≤ 1000
-
-pub record PastFits (p : PastSet) : Type 0 where
-  pub set : SetsOf 1 (p .sum) (p .count)
-  pub day : p .day ≤ 99999
-
--- the first k past sets
-pub record Held (k : ℕ) (past : List PastSet) : Type 0 where
-  pub each : (j : ℕ) → j < k → PastFits (getD past j noSet)
 
 -- what the tests due of a set are made with: its limits, S and N, and an array whose first k past sets are valid
 pub record Due (limits : Limits) (set : Set) (k : ℕ) (past : List PastSet) : Type 0 where

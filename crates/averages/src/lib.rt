@@ -1,6 +1,5 @@
-// The tests of a set's averages (paper 01, "A line between sheets"), and the average by which a line is adjusted.
+// The tests of a set's averages (paper 01, "A line between sheets").
 mod answer;
-mod sides;
 
 pub use answer::Found;
 use rules::Limits;
@@ -11,13 +10,13 @@ use rules::Test;
 use whole::Int;
 ghost use mathlib.Core.Path.{_≡_};
 ghost use mathlib.Core.List.{[]};
-ghost use Prim.Native.Nat.{_+_, _≤_};
-ghost use lib.ListN.{take, length, getD};
-ghost use Rattle.whole.specs.Parts.{Within};
-ghost use Rattle.rules.specs.Lines.{testOf, exceeded, plus, firstExceeded, fiveTest, averagesDue, testsBy, validOn, checkDueLine};
+ghost use Prim.Native.Nat.{_≤_};
+ghost use lib.ListN.{take, getD};
+ghost use Rattle.rules.specs.Lines.{testOf, exceeded, plus, firstExceeded, fiveTest, averagesDue, testsBy, checkDueLine};
 ghost use Rattle.rules.specs.Held.{noSet, phaseWord};
-ghost use Rattle.averages.specs.Ranges.{SetsOf, TestFits, FoundFits, Limited, Held, Due, Joined};
-ghost use Rattle.averages.specs.Order.{foundOf, fromTwo, fromThree, oneMore, averageOf};
+ghost use Rattle.past_sets.specs.Ranges.{SetsOf};
+ghost use Rattle.averages.specs.Ranges.{TestFits, FoundFits, Limited, Due, Joined};
+ghost use Rattle.averages.specs.Order.{foundOf, fromTwo, fromThree};
 
 fn test_of(limit: u32, set: Set) -> Test
     ensures { λ r. ⌜ r ≡ testOf limit set ⌝ }
@@ -54,7 +53,7 @@ fn five_sets(limits: Limits, set: Set, three: Set, past: [PastSet; 4]) -> Found
     requires { ⌜ Due limits set 4 past × Joined (plus set (getD past 0 noSet)) (getD past 1 noSet) three ⌝ }
     ensures { λ r. ⌜ (r ≡ foundOf (firstExceeded (fiveTest limits set (getD past 0 noSet) (getD past 1 noSet) (getD past 2 noSet) (getD past 3 noSet)))) × FoundFits r ⌝ }
 {
-    if !sides::on_one_side(set, past) {
+    if !past_sets::sides::on_one_side(set, past) {
         return Found::Nothing;
     }
     let t = test_of(limits.five, plus(plus(three, past[2]), past[3]));
@@ -132,40 +131,5 @@ pub fn first_exceeded(limits: Limits, phase: Phase, set: Set, k: usize, past: [P
         Phase::New => one_set(limits, set, k, past),
         Phase::Open => one_set(limits, set, k, past),
         Phase::CheckDue => check(limits, set),
-    }
-}
-
-// One more, where the past set is at most 14 days old.
-fn one_more(k: usize, day: u32, p: PastSet) -> usize
-    requires { ⌜ (p .day ≤ 99999) × (k ≤ 4) ⌝ }
-    ensures { λ r. ⌜ (r ≡ oneMore day k p) × (r ≤ k + 1) ⌝ }
-{
-    if day <= p.day + 14 { k + 1 } else { k }
-}
-
-// How many past sets are valid on a day.
-pub fn valid_count(day: u32, held: usize, past: [PastSet; 4]) -> usize
-    requires { ⌜ (held ≤ 4) × (Held held past) ⌝ }
-    ensures { λ r. ⌜ (r ≡ length (validOn day (take held past))) × (r ≤ held) ⌝ }
-{
-    let mut k = 0;
-    let mut i = 0;
-    while i < held {
-        k = one_more(k, day, past[i]);
-        i += 1;
-    }
-    k
-}
-
-// S / N rounded to a whole hundredth, halves away from zero.
-pub fn rounded(sum: Int, count: u32) -> Int
-    requires { ⌜ (SetsOf 5 (sum .z) count) × (1 ≤ count) ⌝ }
-    ensures { λ r. ⌜ (r .z ≡ averageOf (sum .z) count) × Within 2000000 2000000 (r .z) ⌝ }
-{
-    let size = whole::of_u32((2 * whole::size(sum) + count) / (2 * count));
-    if whole::less(sum, Int { z: 0 }) {
-        whole::neg(size)
-    } else {
-        size
     }
 }

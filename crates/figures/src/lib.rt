@@ -7,7 +7,7 @@ ghost use mathlib.Core.Path.{_≡_};
 ghost use Prim.Native.Nat.{_≤_, _<_};
 ghost use lib.ListN.{take};
 ghost use Rattle.rules.specs.Markets.{basisOf, newestDay, within, tooHigh, tenths, tenthsAt};
-ghost use Rattle.averages.specs.Ranges.{Held};
+ghost use Rattle.past_sets.specs.Ranges.{Held};
 
 // B: standard is A, dry is 0, specified and as-is name it.
 pub fn basis_value(a: u32, basis: Basis) -> Int

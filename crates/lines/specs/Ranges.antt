@@ -4,7 +4,7 @@ use lib.Dec.{T}
 use lib.ListN.{take}
 use Rattle.whole.specs.Parts.{Within}
 use Rattle.rules.specs.Soundness.{daysFall}
-use Rattle.averages.specs.Ranges.{Held}
+use Rattle.past_sets.specs.Ranges.{Held}
 use Rattle.rules.specs.declared.Line.{Line}
 
 pub record LineFits (l : Line) : Type 0 where

@@ -1,10 +1,7 @@
-// A line between sheets (paper 01): what a set does to its line, and the line after a sheet or a repair.
-use averages::Found;
-use rules::Limits;
+// A line between sheets (paper 01): the line after a sheet or a repair.
 use rules::Line;
 use rules::PastSet;
 use rules::Phase;
-use rules::Set;
 use rules::Verdict;
 use whole::Int;
 ghost use mathlib.Core.Path.{_≡_};
@@ -12,9 +9,7 @@ ghost use mathlib.Core.List.{_∷_, map};
 ghost use Prim.Native.Nat.{_≤_, _<_, suc, min};
 ghost use lib.ListN.{take, getD};
 ghost use Rattle.whole.specs.Parts.{Within};
-ghost use Rattle.rules.specs.Lines.{adjustBy, verdictOf};
-ghost use Rattle.rules.specs.Held.{noSets, freshLine, lineValues, joined, onlyPast, opened, closed, lineAfter, phaseHeld, repairedPhase, repairedLine};
-ghost use Rattle.averages.specs.Ranges.{SetsOf, Limited};
+ghost use Rattle.rules.specs.Held.{noSets, freshLine, joined, onlyPast, opened, closed, lineAfter, phaseHeld, repairedPhase, repairedLine};
 ghost use Rattle.lines.specs.Ranges.{LineFits};
 
 fn no_sets() -> [PastSet; 4]
@@ -46,51 +41,6 @@ pub fn line_at(lines: [Line; 3], line: usize) -> Line
     ensures { λ r. ⌜ r ≡ getD lines line freshLine ⌝ }
 {
     lines[line]
-}
-
-// Subtract the average from the intercept; where that would leave -1000..1000 the line is shut instead.
-fn adjust(intercept: Int, average: Int) -> Verdict
-    requires { ⌜ (Within 1000 1000 (intercept .z)) × (Within 2000000 2000000 (average .z)) ⌝ }
-    ensures { λ r. ⌜ (r ≡ adjustBy (intercept .z) (average .z)) × Within 2000000 2000000 (r .change) ⌝ }
-{
-    if whole::size_at_most(whole::sub(intercept, average), 1000) {
-        let change = whole::neg(average);
-        Verdict {
-            change: change.z,
-            met: false,
-        }
-    } else {
-        Verdict {
-            change: 0,
-            met: false,
-        }
-    }
-}
-
-// What a set does to its line: N = 0 shuts it, else the tests due decide.
-pub fn verdict_on(limits: Limits, l: Line, day: u32, set: Set) -> Verdict
-    requires { ⌜ (Limited limits) × ((LineFits l) × (SetsOf 1 (set .sum) (set .count))) ⌝ }
-    ensures { λ r. ⌜ (r ≡ verdictOf limits (lineValues l) day set) × Within 2000000 2000000 (r .change) ⌝ }
-{
-    if set.count == 0 {
-        return Verdict {
-            change: 0,
-            met: false,
-        };
-    }
-    let past = l.past;
-    let phase = l.phase;
-    let k = averages::valid_count(day, l.held, past);
-    match averages::first_exceeded(limits, phase, set, k, past) {
-        Found::Exceeded(t) => adjust(
-            Int { z: l.intercept },
-            averages::rounded(Int { z: t.sum }, t.count),
-        ),
-        Found::Nothing => Verdict {
-            change: 0,
-            met: true,
-        },
-    }
 }
 
 // Only the newest four are held.

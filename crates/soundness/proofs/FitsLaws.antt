@@ -22,7 +22,7 @@ use Rattle.rules.proofs.RowFacts.{row-facts}
 use Rattle.rules.specs.declared.PastSet.{PastSet}
 use Rattle.rules.specs.declared.Line.{Line}
 use Rattle.rules.specs.declared.Station.{Station}
-use Rattle.averages.specs.Ranges.{SetsOf}
+use Rattle.past_sets.specs.Ranges.{SetsOf}
 use Rattle.lines.specs.Ranges.{LineFits}
 use Rattle.soundness.proofs.SoundLaws.{held-most}
 

@@ -24,7 +24,7 @@ use Rattle.rules.specs.declared.SheetResult.{SheetResult}
 use Rattle.sheet.specs.Judged.{judgedBy, judgedOf}
 use Rattle.sheet.specs.declared.answer.Judged.{Judged}
 use Rattle.sheet.specs.declared.answer.Judged.the-variants.{Counted, Refused}
-use Rattle.averages.specs.Ranges.{SetsOf}
+use Rattle.past_sets.specs.Ranges.{SetsOf}
 use Rattle.soundness.proofs.FitsLaws.{size-within}
 use Rattle.station.specs.Accepted.{acceptedOf}
 

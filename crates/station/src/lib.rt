@@ -20,7 +20,7 @@ ghost use Rattle.rules.specs.Soundness.{sound};
 ghost use Rattle.rules.specs.Stations.{freshStation, openOf, sheetOf, repairOf};
 ghost use Rattle.rules.specs.declared.SheetAnswer.{SheetAnswer};
 ghost use Rattle.rules.specs.declared.RepairAnswer.{RepairAnswer};
-ghost use Rattle.averages.specs.Ranges.{SetsOf};
+ghost use Rattle.past_sets.specs.Ranges.{SetsOf};
 ghost use Rattle.station.specs.Accepted.{acceptedOf};
 
 fn fresh(row: usize) -> Station
@@ -56,7 +56,7 @@ fn accept(s: Station, day: u32, line: usize, set: Set) -> SheetResult
 {
     let mut all = s.lines;
     let l = lines::line_at(all, line);
-    let v = lines::verdict_on(rows::limits_of(s.row, line), l, day, set);
+    let v = verdicts::verdict_on(rows::limits_of(s.row, line), l, day, set);
     let p = PastSet {
         day,
         sum: set.sum,

@@ -6,9 +6,11 @@ use borrow.Author.Tests.{not-true, not-false}
 use Rattle.rules.specs.Lines.{testOf, plus}
 use Rattle.rules.specs.Held.{noSet}
 use Rattle.rules.specs.declared.Set.{Set}
-use Rattle.averages.specs.Ranges.{SetsOf, PastFits, TestFits}
+use Rattle.past_sets.specs.Ranges.{SetsOf, PastFits}
+use Rattle.averages.specs.Ranges.{TestFits}
 use Rattle.averages.specs.declared.answer.Found.the-variants.{Nothing}
-use Rattle.averages.proofs.RangeLaws.{of-more, plus-joined, join-fits, join-some, test-fits}
+use Rattle.past_sets.proofs.RangeLaws.{of-more}
+use Rattle.averages.proofs.RangeLaws.{plus-joined, join-fits, join-some, test-fits}
 use Rattle.averages.proofs.OrderLaws.{tried-yes, tried-no, five-none, five-some}
 use borrow.Author.Needs.{needs}
 use Rattle.averages.proofs.five_sets.Statement.{statement}

@@ -4,10 +4,12 @@ use lib.ListN.{length, getD}
 use Rattle.rules.specs.Lines.{testOf, plus, firstExceeded, fiveTest}
 use Rattle.rules.specs.Held.{noSet}
 use Rattle.rules.specs.declared.Set.{Set}
-use Rattle.averages.specs.Ranges.{SetsOf, PastFits, TestFits, Joined}
+use Rattle.past_sets.specs.Ranges.{SetsOf, PastFits}
+use Rattle.averages.specs.Ranges.{TestFits, Joined}
 use Rattle.averages.specs.Order.{foundOf}
 use Rattle.averages.specs.declared.answer.Found.the-variants.{Nothing}
-use Rattle.averages.proofs.RangeLaws.{of-more, join-fits, join-some, test-fits, held-less}
+use Rattle.past_sets.proofs.RangeLaws.{of-more, held-less}
+use Rattle.averages.proofs.RangeLaws.{join-fits, join-some, test-fits}
 use Rattle.averages.proofs.OrderLaws.{tried-no, three-none, three-some, three-four, three-first}
 use borrow.Author.Needs.{needs}
 use Rattle.averages.proofs.three_sets.Statement.{statement}

@@ -3,9 +3,11 @@ use native.Mathlib.Omega.{arith}
 use lib.ListN.{length, take, getD}
 use Rattle.rules.specs.Lines.{testOf, plus}
 use Rattle.rules.specs.Held.{noSet}
-use Rattle.averages.specs.Ranges.{SetsOf, PastFits, TestFits}
+use Rattle.past_sets.specs.Ranges.{SetsOf, PastFits}
+use Rattle.averages.specs.Ranges.{TestFits}
 use Rattle.averages.specs.Order.{fromThree}
-use Rattle.averages.proofs.RangeLaws.{of-more, join-fits, join-some, test-fits}
+use Rattle.past_sets.proofs.RangeLaws.{of-more}
+use Rattle.averages.proofs.RangeLaws.{join-fits, join-some, test-fits}
 use Rattle.averages.proofs.OrderLaws.{tried-yes, tried-no, two-none, two-some}
 use borrow.Author.Needs.{needs}
 use Rattle.averages.proofs.two_sets.Statement.{statement}

@@ -7,7 +7,7 @@ use borrow.Author.Needs.{needs}
 use Rattle.whole.proofs.Fold.{Going, going-start}
 use Rattle.whole.proofs.ListLaws.{andAlso, all-fold}
 use Rattle.rules.specs.Soundness.{soundLine}
-use Rattle.averages.proofs.Arrays.{first-step, first-done}
+use Rattle.past_sets.proofs.Arrays.{first-step, first-done}
 use Rattle.lines.proofs.LineLaws.{blankLine}
 use Rattle.soundness.proofs.sound_lines.Statement.{statement}
 use Rattle.soundness.proofs.sound_lines.Tie as tie

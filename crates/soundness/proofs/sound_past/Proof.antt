@@ -6,7 +6,7 @@ use lib.ListN.{length, take}
 use borrow.Author.Needs.{needs}
 use Rattle.whole.proofs.Fold.{Going, going-start}
 use Rattle.rules.specs.Held.{noSet}
-use Rattle.averages.proofs.Arrays.{first-step, first-done}
+use Rattle.past_sets.proofs.Arrays.{first-step, first-done}
 use Rattle.soundness.specs.Fall.{fallen}
 use Rattle.soundness.specs.declared.Fall.{Fall}
 use Rattle.soundness.proofs.SoundLaws.{fallen-fold}

@@ -1,0 +1,4 @@
+pub mod Arrays
+pub mod SideLaws
+pub mod RangeLaws
+pub mod ValidLaws
