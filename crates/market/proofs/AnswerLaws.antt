@@ -1,11 +1,11 @@
 -- Which answer a market test gets, by its tests in the order of their numbers.
-use mathlib.Core.Path.{_≡_, refl, ap}
+use mathlib.Core.Path.{_≡_, refl}
 use mathlib.Core.Bool.{true, false, not}
 use mathlib.Core.List.{_∷_}
 use mathlib.Core.Option.{Option, none, some}
-use Prim.Native.Nat.{ℕ, _+_, _≤_, _<_}
+use Prim.Native.Nat.{ℕ, _≤_, _<_}
 use lib.Ieee.{Float}
-use lib.IntN.{ℤ, pos, natAbs, _+ℤ_}
+use lib.IntN.{ℤ, pos, _+ℤ_}
 use borrow.Author.Tests.{lt-ltb, le-ltb, not-true}
 use Rattle.whole.proofs.Tests.{to-true}
 use Rattle.reading.specs.Reading.{inRange, answerOf}
@@ -14,44 +14,25 @@ use Rattle.reading.specs.declared.answer.Reading.{Reading}
 use Rattle.rules.specs.Rows.{standardBasis, lineCount}
 use Rattle.rules.specs.Refusals.{firstNumber}
 use Rattle.rules.specs.Lines.{Values}
-use Rattle.rules.specs.Markets.{basisOf, correctedValue, isOpen, newestDay, within, tooHigh, marketChecks, certificateOf}
+use Rattle.rules.specs.Markets.{basisOf, correctedValue, within, marketChecks, certificateOf}
 use Rattle.rules.specs.Judging.{dayCheck, marketNumbers}
 use Rattle.rules.specs.Soundness.{sound, soundCheck}
 use Rattle.rules.specs.Stations.{valuesOf, marketResult, marketOf}
-use Rattle.rules.specs.declared.Refusal.the-variants.{UnsoundStation, BadDay, UnknownLine, WrongScan, BadFloat, BadBasis, BadValue, NotOpen, OldSet, TooHigh}
+use Rattle.rules.specs.declared.Refusal.the-variants.{UnsoundStation, BadDay, UnknownLine, WrongScan, BadFloat, BadBasis, BadValue}
 use Rattle.rules.specs.declared.Scan.{Scan}
 use Rattle.rules.specs.declared.Basis.{Basis}
 use Rattle.rules.specs.declared.Station.{Station}
 use Rattle.rules.specs.declared.Certificate.{Certificate}
-use Rattle.rules.specs.declared.MarketAnswer.the-variants.{Certified, Refused}
+use Rattle.rules.specs.declared.MarketAnswer.the-variants.{Refused}
 use Rattle.scans.specs.Scans.{pickedOf}
-use Rattle.market.specs.Answers.{answerBy, certificateBy, certifiedOf, valuedOf, testedOf, answeredOf, finished}
+use Rattle.certificates.specs.Certified.{answerBy, certifiedOf}
+use Rattle.market.specs.Answers.{valuedOf, testedOf, answeredOf, finished}
 use Rattle.scans.specs.declared.Picked.the-variants.{Value, Wrong}
 use Rattle.scans.proofs.ScanLaws.{picked-value, picked-wrong}
 
--- ---- numbers 12 to 14
+-- ---- numbers 10 and 11
 
 module _ (a : ℕ) (v : Values) (day : ℕ) (b h : ℤ) where
-  pub not-open : isOpen (v .phase) ≡ false → Refused NotOpen ≡ certifiedOf a v day b h
-  unfolding certifiedOf
-  not-open e = simp e
-
-  module _ (opened : isOpen (v .phase) ≡ true) where
-    pub too-old : newestDay (v .past) + 7 < day → Refused OldSet ≡ certifiedOf a v day b h
-    unfolding certifiedOf
-    too-old g = simp (opened, lt-ltb (newestDay (v .past) + 7) day g)
-
-    module _ (recent : day ≤ newestDay (v .past) + 7) where
-      pub too-high : tooHigh a (natAbs b) (natAbs h) ≡ true → Refused TooHigh ≡ certifiedOf a v day b h
-      unfolding certifiedOf
-      too-high e = simp (opened, le-ltb (newestDay (v .past) + 7) day recent, e)
-
-      pub certified : tooHigh a (natAbs b) (natAbs h) ≡ false → (c : Certificate) → c ≡ certificateBy a v b h → Certified c ≡ certifiedOf a v day b h
-      unfolding certifiedOf
-      certified e c q = simp (opened, le-ltb (newestDay (v .past) + 7) day recent, e) (ap Certified q)
-
-  -- ---- numbers 10 and 11
-
   pub basis-bad : within 0 5000 b ≡ false → Refused BadBasis ≡ valuedOf a v day b h
   unfolding valuedOf
   basis-bad e = simp e

@@ -1,65 +1,23 @@
 // Market tests and certificates (paper 01, "Market test and moisture basis").
 use reading::Reading;
 use rules::Basis;
-use rules::Certificate;
 use rules::Line;
 use rules::MarketAnswer;
 use rules::MarketResult;
-use rules::Phase;
 use rules::Refusal;
 use rules::Scan;
 use rules::Station;
 use scans::Picked;
 use whole::Int;
 ghost use mathlib.Core.Path.{_≡_};
-ghost use mathlib.Core.Bool.{true};
-ghost use Prim.Native.Nat.{_≤_, _<_};
+ghost use Prim.Native.Nat.{_≤_};
 ghost use lib.IntN.{pos, _+ℤ_};
 ghost use Rattle.rules.specs.Rows.{standardBasis};
-ghost use Rattle.rules.specs.Held.{phaseWord, lineValues};
-ghost use Rattle.rules.specs.Markets.{basisOf, isOpen, within};
+ghost use Rattle.rules.specs.Held.{lineValues};
+ghost use Rattle.rules.specs.Markets.{basisOf};
 ghost use Rattle.rules.specs.Stations.{marketOf};
 ghost use Rattle.lines.specs.Ranges.{LineFits};
-ghost use Rattle.market.specs.Answers.{certifiedOf, valuedOf, testedOf, answeredOf, finished};
-
-fn is_open(phase: Phase) -> bool
-    ensures { λ r. ⌜ r ≡ isOpen (phaseWord phase) ⌝ }
-{
-    match phase {
-        Phase::New => false,
-        Phase::Open => true,
-        Phase::CheckDue => false,
-    }
-}
-
-// Numbers 12 to 14, and the certificate, of the basis B and the corrected value h.
-fn certify(a: u32, l: Line, day: u32, b: Int, h: Int) -> MarketAnswer
-    requires { ⌜ (a < 10000) × (LineFits l) ⌝ }
-    requires { ⌜ (within 0 5000 (b .z) ≡ true) × (within 0 10000 (h .z) ≡ true) ⌝ }
-    ensures { λ r. ⌜ r ≡ certifiedOf a (lineValues l) day (b .z) (h .z) ⌝ }
-{
-    let phase = l.phase;
-    if !is_open(phase) {
-        return MarketAnswer::Refused(Refusal::NotOpen);
-    }
-    let past = l.past;
-    let newest = figures::newest_day(l.held, past);
-    if newest + 7 < day {
-        return MarketAnswer::Refused(Refusal::OldSet);
-    }
-    let basis = whole::to_u32(b);
-    let value = whole::to_u32(h);
-    if figures::is_too_high(a, basis, value) {
-        return MarketAnswer::Refused(Refusal::TooHigh);
-    }
-    MarketAnswer::Certified(Certificate {
-        day: newest,
-        intercept: l.intercept,
-        basis: b.z,
-        figure: figures::in_tenths(value),
-        converted: figures::in_tenths_at(a, basis, value),
-    })
-}
+ghost use Rattle.market.specs.Answers.{valuedOf, testedOf, answeredOf, finished};
 
 // Numbers 10 to 14, of a reading n.
 fn judge_reading(row: usize, l: Line, day: u32, n: u32, basis: Basis) -> MarketAnswer
@@ -75,7 +33,7 @@ fn judge_reading(row: usize, l: Line, day: u32, n: u32, basis: Basis) -> MarketA
     if !figures::up_to(10000, h) {
         return MarketAnswer::Refused(Refusal::BadValue);
     }
-    certify(a, l, day, b, h)
+    certificates::certify(a, l, day, b, h)
 }
 
 // Numbers 8 to 14.

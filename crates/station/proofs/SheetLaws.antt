@@ -26,7 +26,7 @@ use Rattle.sheet.specs.declared.answer.Judged.{Judged}
 use Rattle.sheet.specs.declared.answer.Judged.the-variants.{Counted, Refused}
 use Rattle.past_sets.specs.Ranges.{SetsOf}
 use Rattle.soundness.proofs.FitsLaws.{size-within}
-use Rattle.station.specs.Accepted.{acceptedOf}
+use Rattle.outcomes.specs.Accepted.{acceptedOf}
 
 abbrev pub refusedSheet : Station → Refusal → SheetResult
 refusedSheet s r = record { station = s; answer = SheetAnswer.Refused r }

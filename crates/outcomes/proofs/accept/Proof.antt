@@ -14,11 +14,11 @@ use Rattle.rules.specs.declared.SheetAnswer.{SheetAnswer}
 use Rattle.averages.specs.Ranges.{Limited}
 use Rattle.lines.specs.Ranges.{LineFits}
 use Rattle.soundness.proofs.FitsLaws.{line-fits}
-use Rattle.station.specs.Accepted.{acceptedOf}
-use Rattle.station.proofs.LimitLaws.{limits-limited}
+use Rattle.outcomes.specs.Accepted.{acceptedOf}
+use Rattle.outcomes.proofs.LimitLaws.{limits-limited}
 use borrow.Author.Needs.{needs}
-use Rattle.station.proofs.accept.Statement.{statement}
-use Rattle.station.proofs.accept.Tie as tie
+use Rattle.outcomes.proofs.accept.Statement.{statement}
+use Rattle.outcomes.proofs.accept.Tie as tie
 
 fits : (c : tie.After-line-at) → LineFits (c .line-at .result)
 fits c =

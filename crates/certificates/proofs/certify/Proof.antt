@@ -10,10 +10,10 @@ use Rattle.whole.proofs.Read.{back, back-in}
 use Rattle.rules.specs.Held.{lineValues, phaseWord}
 use Rattle.rules.specs.Markets.{isOpen, newestDay, tooHigh, tenths, tenthsAt}
 use Rattle.figures.proofs.FigureLaws.{in-range}
-use Rattle.market.proofs.AnswerLaws.{not-open, too-old, too-high, certified}
+use Rattle.certificates.proofs.CertifiedLaws.{not-open, too-old, too-high, certified}
 use borrow.Author.Needs.{needs}
-use Rattle.market.proofs.certify.Statement.{statement}
-use Rattle.market.proofs.certify.Tie as tie
+use Rattle.certificates.proofs.certify.Statement.{statement}
+use Rattle.certificates.proofs.certify.Tie as tie
 
 open-in : (c : tie.Else1) → isOpen (phaseWord (c .before .before .args .l .phase)) ≡ true
 open-in c = sym (c .before .is-open .ensures) ∙ not-false _ (c .if1 .left)

@@ -3,8 +3,8 @@ use borrow.Author.Needs.{needs}
 use Rattle.rules.specs.Held.{phaseWord}
 use Rattle.rules.specs.Markets.{isOpen}
 use Rattle.rules.specs.declared.Phase.{Phase}
-use Rattle.market.proofs.is_open.Statement.{statement}
-use Rattle.market.proofs.is_open.Tie as tie
+use Rattle.certificates.proofs.is_open.Statement.{statement}
+use Rattle.certificates.proofs.is_open.Tie as tie
 
 enum-told : tie.Need-enum-told
 enum-told c = search needs

@@ -1,6 +1,6 @@
 use mathlib.Core.Path.{refl}
-use Rattle.station.proofs.refuse_sheet.Statement.{statement}
-use Rattle.station.proofs.refuse_sheet.Tie as tie
+use Rattle.outcomes.proofs.refuse_sheet.Statement.{statement}
+use Rattle.outcomes.proofs.refuse_sheet.Tie as tie
 
 returns : tie.Need-returns
 returns c = refl
