@@ -1,4 +1,4 @@
-// Market tests and certificates (paper 01, "Market test and moisture basis").
+// Market tests (paper 01, "Market test and moisture basis"): their numbers in order, and the call.
 use reading::Reading;
 use rules::Basis;
 use rules::Line;
