@@ -5,7 +5,8 @@ use lib.IntN.{natAbs}
 use Rattle.decimal.specs.Show.{show, showSigned, bit}
 use Rattle.chart_sets.specs.declared.ChartSet.{ChartSet}
 use Rattle.chart_rules.specs.Rows.{limitsOf}
-use Rattle.chart_rules.specs.Rules.{absolute, tolerance, run, rangeAbsolute, rangeTolerance}
+use Rattle.chart_rules.specs.Rules.{absolute, tolerance, rangeAbsolute, rangeTolerance}
+use Rattle.chart_run.specs.Run.{run}
 use Rattle.chart.specs.Charts.{pastOf}
 use Rattle.chart.specs.declared.Chart.{Chart}
 use Rattle.chart.specs.declared.Values.{Values}

@@ -7,8 +7,7 @@ ghost use Prim.Native.Nat.{_+_, _-_, _≤_, min};
 ghost use lib.ListN.{length, take};
 ghost use Rattle.decimal.specs.Put.{Put};
 ghost use Rattle.whole.specs.Lists.{all};
-ghost use Rattle.chart_sets.specs.Soundness.{soundSet, SetFits};
-ghost use Rattle.chart_rules.specs.Held.{AllFit};
+ghost use Rattle.chart_sets.specs.Soundness.{soundSet, SetFits, AllFit};
 ghost use Rattle.chart.specs.Charts.{sound as soundOf, pastOf, freshChart, openOf, nextChart};
 ghost use Rattle.chart.specs.Lines.{valuesOf, flagBytes, lineOf, FiveDigits};
 ghost use Rattle.chart.specs.Calls.{refusalOf, resultOf, bytesOf, chartSetOf};
@@ -142,7 +141,7 @@ fn values_of(chart: Chart, week: u32, s: ChartSet) -> Values
     let sets = chart.sets;
     let al = chart_rules::absolute(limits.al, s);
     let tl = chart_rules::tolerance(limits.tl, s, held, sets);
-    let run = chart_rules::run(limits.run, s, held, sets);
+    let run = chart_run::run(limits.run, s, held, sets);
     let ral = limits.ral <= s.range;
     let rtl = chart_rules::range_tolerance(limits.rtl, s, held, sets);
     Values {

@@ -14,7 +14,8 @@ use Rattle.rules.specs.Stations.{sheetStation, outcomeOf, sheetOf, marketOf}
 use Rattle.chart_sets.specs.Sets.{badWeek, badSize, outside, badResult, setOf as chartSetOf}
 use Rattle.chart_sets.specs.Soundness.{soundSet}
 use Rattle.chart_rules.specs.Rows as chartRows
-use Rattle.chart_rules.specs.Rules.{absolute, atOrAbove, atOrBelow, tolerance, rangeTolerance, above, below, oneSide, sixtieths, runBy, run}
+use Rattle.chart_rules.specs.Rules.{absolute, atOrAbove, atOrBelow, tolerance, rangeTolerance}
+use Rattle.chart_run.specs.Run.{above, below, oneSide, sixtieths, runBy, run}
 use Rattle.chart.specs.Charts.{sound as soundChart, nextChart}
 use Rattle.chart.specs.Lines.{valuesOf}
 use Rattle.chart.specs.Calls.{refusalOf, decided, accepted, resultOf}

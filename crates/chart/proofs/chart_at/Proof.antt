@@ -4,7 +4,7 @@ use native.Mathlib.Omega.{arith}
 use Prim.Native.Nat.{_-_}
 use lib.ListN.{length}
 use denote.Ref.{now}
-use Rattle.chart_rules.proofs.Held.{all-fit}
+use Rattle.chart_sets.proofs.Soundness.{all-fit}
 use Rattle.chart.specs.Charts.{nextChart, pastOf}
 use Rattle.chart.specs.Lines.{valuesOf, lineOf}
 use Rattle.chart.specs.Calls.{refusalOf, resultOf, decided, accepted, bytesOf}

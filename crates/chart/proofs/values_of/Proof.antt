@@ -5,11 +5,12 @@ use mir.Val.{SFits}
 use lib.Dec.{leb}
 use Rattle.whole.proofs.Read.{back}
 use Rattle.chart_rules.specs.declared.Limits.{Limits}
-use Rattle.chart_rules.specs.Rules.{absolute, tolerance, run, rangeTolerance}
+use Rattle.chart_rules.specs.Rules.{absolute, tolerance, rangeTolerance}
+use Rattle.chart_run.specs.Run.{run}
 use Rattle.chart.specs.Charts.{pastOf}
 use Rattle.chart.specs.Lines.{valuesOf}
 use borrow.Author.Needs.{needs}
-use Rattle.chart_rules.specs.Held.{SmallLimits}
+use Rattle.chart_rules.specs.Rows.{SmallLimits}
 use Rattle.chart_rules.proofs.Rows.{row-small}
 use Rattle.chart.proofs.values_of.Statement.{statement}
 use Rattle.chart.proofs.values_of.Tie as tie

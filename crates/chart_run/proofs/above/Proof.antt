@@ -1,11 +1,11 @@
--- `chart_rules::above` meets its contract.
+-- `chart_run::above` meets its contract.
 use mathlib.Core.Path.{ap, _∙_}
 use lib.IntN.{ℤ, pos}
 use lib.Signed.{ltZ}
-use Rattle.chart_rules.specs.Rules.{above}
+use Rattle.chart_run.specs.Run.{above}
 use borrow.Author.Needs.{needs}
-use Rattle.chart_rules.proofs.above.Statement.{statement}
-use Rattle.chart_rules.proofs.above.Tie as tie
+use Rattle.chart_run.proofs.above.Statement.{statement}
+use Rattle.chart_run.proofs.above.Tie as tie
 
 sum-of-requires : tie.Need-sum-of-requires
 sum-of-requires c κs = search needs

@@ -1,15 +1,16 @@
--- `chart_rules::run` meets its contract.
+-- `chart_run::run` meets its contract.
 use Rattle.chart_sets.specs.Sets.{blankSet}
 use lib.ListN.{length, take}
 use Prim.Native.Nat.{_≤_, ℕ}
 use Rattle.chart_sets.proofs.Flags.{or2}
-use Rattle.chart_rules.specs.Rules.{run}
+use Rattle.chart_run.specs.Run.{run}
 use mathlib.Core.Path.{_≡_, sym, ap, _∙_}
 use native.Mathlib.Omega.{arith}
-use Rattle.chart_rules.proofs.Held.{run-short, run-three, run-four, fit-at}
+use Rattle.chart_sets.proofs.Soundness.{fit-at}
+use Rattle.chart_run.proofs.Held.{run-short, run-three, run-four}
 use borrow.Author.Needs.{needs}
-use Rattle.chart_rules.proofs.run.Statement.{statement}
-use Rattle.chart_rules.proofs.run.Tie as tie
+use Rattle.chart_run.proofs.run.Statement.{statement}
+use Rattle.chart_run.proofs.run.Tie as tie
 
 returns : tie.Need-returns
 returns c = run-short _ _ blankSet _ _ (c .if1 .taken) (search needs)

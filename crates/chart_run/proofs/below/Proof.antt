@@ -1,11 +1,11 @@
--- `chart_rules::below` meets its contract.
+-- `chart_run::below` meets its contract.
 use mathlib.Core.Path.{ap, _∙_}
 use lib.IntN.{ℤ, pos}
 use lib.Signed.{ltZ}
-use Rattle.chart_rules.specs.Rules.{below}
+use Rattle.chart_run.specs.Run.{below}
 use borrow.Author.Needs.{needs}
-use Rattle.chart_rules.proofs.below.Statement.{statement}
-use Rattle.chart_rules.proofs.below.Tie as tie
+use Rattle.chart_run.proofs.below.Statement.{statement}
+use Rattle.chart_run.proofs.below.Tie as tie
 
 sum-of-requires : tie.Need-sum-of-requires
 sum-of-requires c κs = search needs

@@ -1,11 +1,11 @@
--- `chart_rules::four_sixtieths` meets its contract.
+-- `chart_run::four_sixtieths` meets its contract.
 use mathlib.Core.Path.{sym, _∙_}
 use lib.IntN.{+ℤ-idr}
-use Rattle.chart_rules.proofs.Averages.{plus}
+use Rattle.chart_run.proofs.Averages.{plus}
 use native.Mathlib.Omega.{arith}
 use borrow.Author.Needs.{needs}
-use Rattle.chart_rules.proofs.four_sixtieths.Statement.{statement}
-use Rattle.chart_rules.proofs.four_sixtieths.Tie as tie
+use Rattle.chart_run.proofs.four_sixtieths.Statement.{statement}
+use Rattle.chart_run.proofs.four_sixtieths.Tie as tie
 
 sixtieths-requires : tie.Need-sixtieths-requires
 sixtieths-requires c κs = search needs

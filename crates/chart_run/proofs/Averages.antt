@@ -4,8 +4,8 @@ use Prim.Native.Nat.{ℕ, zero, suc, _/_, _≤_}
 use native.Mathlib.Omega.{arith}
 use lib.IntN.{ℤ, pos, _+ℤ_, _*ℤ_, *ℤ-comm}
 use Rattle.whole.proofs.Linear.{*ℤ-assoc}
-use Rattle.chart_rules.specs.Rules.{sixtieths}
-use Rattle.chart_rules.specs.Laws.{SixtiethsExact}
+use Rattle.chart_run.specs.Run.{sixtieths}
+use Rattle.chart_run.specs.Laws.{SixtiethsExact}
 
 exact : (z : ℤ) (n : ℕ) → 1 ≤ n → n ≤ 5 → (z *ℤ pos (60 / n)) *ℤ pos n ≡ pos 60 *ℤ z
 exact z zero h l = absurd (omega arith)

@@ -1,15 +1,15 @@
--- `chart_rules::sixtieths` meets its contract.
+-- `chart_run::sixtieths` meets its contract.
 use mathlib.Core.Path.{_∙_}
 use Prim.Native.Nat.{_+_, _*_, _≤_}
 use native.Mathlib.Omega.{arith}
 use lib.IntN.{_*ℤ_}
 use Rattle.whole.specs.Parts.{Within, up, down}
 use Rattle.whole.proofs.PartLaws.{either, product}
-use Rattle.chart_rules.specs.Rules.{sixtieths}
-use Rattle.chart_rules.proofs.Averages.{sixty-over}
+use Rattle.chart_run.specs.Run.{sixtieths}
+use Rattle.chart_run.proofs.Averages.{sixty-over}
 use borrow.Author.Needs.{needs}
-use Rattle.chart_rules.proofs.sixtieths.Statement.{statement}
-use Rattle.chart_rules.proofs.sixtieths.Tie as tie
+use Rattle.chart_run.proofs.sixtieths.Statement.{statement}
+use Rattle.chart_run.proofs.sixtieths.Tie as tie
 
 bound : (c : tie.After-of-u32)
     → (up (c .before .sum-of .result .z) + down (c .before .sum-of .result .z)) * (up (c .of-u32 .result .z) + down (c .of-u32 .result .z)) ≤ 50000 * 60

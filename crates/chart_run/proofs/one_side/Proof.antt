@@ -1,11 +1,11 @@
--- `chart_rules::one_side` meets its contract.
+-- `chart_run::one_side` meets its contract.
 use mathlib.Core.Path.{sym, _∙_}
 use Rattle.chart_sets.proofs.Flags.{and2, or2}
 use Rattle.whole.proofs.Tests.{and-true}
-use Rattle.chart_rules.specs.Rules.{oneSide}
+use Rattle.chart_run.specs.Run.{oneSide}
 use borrow.Author.Needs.{needs}
-use Rattle.chart_rules.proofs.one_side.Statement.{statement}
-use Rattle.chart_rules.proofs.one_side.Tie as tie
+use Rattle.chart_run.proofs.one_side.Statement.{statement}
+use Rattle.chart_run.proofs.one_side.Tie as tie
 
 above-requires : tie.Need-above-requires
 above-requires c κs = search needs
