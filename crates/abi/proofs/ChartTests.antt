@@ -8,9 +8,9 @@ use lib.IntN.{ℤ, pos}
 use lib.ListN.{length}
 use borrow.Author.Tests.{lt-ltb, le-ltb}
 use Rattle.decimal.specs.Put.{overwritten}
-use Rattle.chart.specs.Charts.{openOf}
+use Rattle.chart.specs.Openings.{openOf}
 use Rattle.chart.specs.Calls.{chartSetOf}
-use Rattle.chart.specs.declared.Chart.{Chart}
+use Rattle.chart_state.specs.declared.Chart.{Chart}
 use Rattle.chart.specs.declared.ChartAnswer.{ChartAnswer}
 use Rattle.chart.specs.declared.ChartAnswer.the-variants.{Charted, Refused}
 use Rattle.chart_judge.specs.Refusals as texts

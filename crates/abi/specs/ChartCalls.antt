@@ -7,10 +7,10 @@ use lib.IntN.{ℤ, pos}
 use lib.ListN.{length}
 use Rattle.decimal.specs.Put.{overwritten}
 use Rattle.chart.specs.Refusals.{numberOf}
-use Rattle.chart.specs.Charts.{openOf}
+use Rattle.chart.specs.Openings.{openOf}
 use Rattle.chart.specs.Calls.{SetCharted, chartSetOf}
-use Rattle.chart.specs.declared.Chart.{Chart}
-use Rattle.chart.specs.declared.Values.{Values}
+use Rattle.chart_state.specs.declared.Chart.{Chart}
+use Rattle.chart_line.specs.declared.Values.{Values}
 use Rattle.chart.specs.declared.OpenAnswer.{OpenAnswer}
 use Rattle.chart.specs.declared.OpenAnswer.the-variants.{Opened}
 use Rattle.chart.specs.declared.ChartAnswer.{ChartAnswer}

@@ -7,8 +7,8 @@ use Rattle.chart_sets.specs.Soundness.{soundSet}
 use Rattle.chart_rules.specs.Rows.{limitsOf}
 use Rattle.chart_rules.specs.Rules.{absolute, atOrAbove, atOrBelow, tolerance, rangeTolerance}
 use Rattle.chart_run.specs.Run.{above, below, oneSide, sixtieths, runBy, run}
-use Rattle.chart.specs.Charts.{sound, freshChart, nextChart}
-use Rattle.chart.specs.Lines.{valuesOf, flagBytes, lineOf}
+use Rattle.chart_state.specs.Charts.{sound, freshChart, nextChart}
+use Rattle.chart_line.specs.Lines.{valuesOf, flagBytes, lineOf}
 use Rattle.chart.specs.Calls.{refusalOf, decided, accepted, resultOf, bytesOf}
 use Rattle.chart.specs.Cases.{runs, week26, line26}
 

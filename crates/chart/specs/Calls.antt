@@ -8,9 +8,9 @@ use lib.Dec.{ltb}
 use Rattle.decimal.specs.Put.{overwritten}
 use Rattle.chart_sets.specs.Sets.{badWeek, badSize, badResult, setOf}
 use Rattle.chart.specs.Refusals.{Check, firstRefusal}
-use Rattle.chart.specs.Charts.{sound, nextChart}
-use Rattle.chart.specs.Lines.{valuesOf, lineOf}
-use Rattle.chart.specs.declared.Chart.{Chart}
+use Rattle.chart_state.specs.Charts.{sound, nextChart}
+use Rattle.chart_line.specs.Lines.{valuesOf, lineOf}
+use Rattle.chart_state.specs.declared.Chart.{Chart}
 use Rattle.chart.specs.declared.Refusal.the-variants.{UnsoundChart, BadWeek, BadSize, BadResult, ShortBuffer}
 use Rattle.chart.specs.declared.Judgement.{Judgement}
 use Rattle.chart.specs.declared.Judgement.the-variants as J

@@ -10,8 +10,8 @@ use Rattle.chart_sets.specs.Soundness.{soundSet}
 use Rattle.chart_rules.specs.Rows.{limitsOf}
 use Rattle.chart_rules.specs.Rules.{absolute, atOrAbove, atOrBelow, tolerance, rangeTolerance}
 use Rattle.chart_run.specs.Run.{above, below, oneSide, sixtieths, runBy, run}
-use Rattle.chart.specs.Charts.{sound, nextChart}
-use Rattle.chart.specs.Lines.{valuesOf, flagBytes, lineOf}
+use Rattle.chart_state.specs.Charts.{sound, nextChart}
+use Rattle.chart_line.specs.Lines.{valuesOf, flagBytes, lineOf}
 use Rattle.chart.specs.Calls.{refusalOf, decided, accepted, resultOf, bytesOf as lineBytes}
 use Rattle.chart_judge.specs.Judging.{linesFrom, linesAt, isNext, isStart}
 use Rattle.chart_file.specs.Gathering.{finished, closed, kept, setsOf}

@@ -15,10 +15,11 @@ use Rattle.chart_lines.specs.declared.ValueLine.{ValueLine}
 use Rattle.chart_lines.specs.declared.LineRead.{LineRead}
 use Rattle.chart_lines.specs.declared.LineRead.the-variants.{Values, Bad}
 use Rattle.chart_sets.specs.Sets.{badWeek, badSize, outside, badResult}
-use Rattle.chart.specs.Charts.{sound, freshChart, opening, openOf, nextChart}
+use Rattle.chart.specs.Openings.{opening, openOf}
+use Rattle.chart_state.specs.Charts.{sound, freshChart, nextChart}
 use Rattle.chart.specs.Calls.{refusalOf, decided, accepted, resultOf}
 use Rattle.chart.specs.Answers.{chartSays}
-use Rattle.chart.specs.declared.Chart.{Chart}
+use Rattle.chart_state.specs.declared.Chart.{Chart}
 use Rattle.chart.specs.declared.Judgement.the-variants as J
 use Rattle.chart.proofs.Soundness.{stays-sound}
 use Rattle.chart_judge.specs.Judging.{Check, valueLines, firstRefusal, linesChecks, textChecks, starts, verdict, judged, FineLine, GoodLines}

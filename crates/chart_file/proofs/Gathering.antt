@@ -16,11 +16,11 @@ use Rattle.chart_lines.specs.Line.{lineAt}
 use Rattle.chart_lines.specs.declared.ValueLine.{ValueLine}
 use Rattle.chart_lines.specs.declared.LineRead.{LineRead}
 use Rattle.chart_lines.specs.declared.LineRead.the-variants.{Values, Bad}
-use Rattle.chart.specs.Charts.{freshChart}
+use Rattle.chart_state.specs.Charts.{freshChart}
 use Rattle.chart.specs.Calls.{resultOf}
 use Rattle.chart.specs.Calls as Call
-use Rattle.chart.specs.declared.Chart.{Chart}
-use Rattle.chart.specs.declared.Values.{Values as ChartValues}
+use Rattle.chart_state.specs.declared.Chart.{Chart}
+use Rattle.chart_line.specs.declared.Values.{Values as ChartValues}
 use Rattle.chart.specs.declared.ChartResult.{ChartResult}
 use Rattle.chart.specs.declared.ChartAnswer.{ChartAnswer}
 use Rattle.chart.specs.declared.ChartAnswer.the-variants.{Charted}

@@ -7,10 +7,10 @@ use lib.ListN.{length}
 use lib.Dec.{ltb}
 use Rattle.decimal.specs.Show.{show}
 use Rattle.decimal.specs.Put.{overwritten}
-use Rattle.chart.specs.Charts.{freshChart}
+use Rattle.chart_state.specs.Charts.{freshChart}
 use Rattle.chart.specs.Calls.{resultOf, shortBuffer}
 use Rattle.chart.specs.Calls as Call
-use Rattle.chart.specs.declared.Chart.{Chart}
+use Rattle.chart_state.specs.declared.Chart.{Chart}
 use Rattle.chart_lines.specs.declared.ValueLine.{ValueLine}
 use Rattle.chart_judge.specs.Refusals.{numberOf}
 use Rattle.chart_judge.specs.Judging.{Check, firstRefusal, textChecks, valueLines}

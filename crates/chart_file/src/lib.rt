@@ -1,10 +1,10 @@
 // A chart text judged and charted whole, and what the chart program prints.
-use chart::Chart;
 use chart::ChartAnswer;
 use chart_judge::TextRefusal;
 use chart_judge::Verdict;
 use chart_lines::LineRead;
 use chart_lines::ValueLine;
+use chart_state::Chart;
 ghost use mathlib.Core.Path.{_≡_};
 ghost use Prim.Native.Nat.{_+_, _*_, _<_, _≤_};
 ghost use lib.IntN.{pos};

@@ -10,9 +10,9 @@ use Rattle.whole.proofs.Tests.{and-both}
 use Rattle.chart_sets.specs.Sets.{blankSet, setOf}
 use Rattle.chart_sets.specs.declared.ChartSet.{ChartSet}
 use Rattle.chart_sets.proofs.Sums.{week-facts}
-use Rattle.chart.specs.Charts.{freshChart, nextChart}
+use Rattle.chart_state.specs.Charts.{freshChart, nextChart}
 use Rattle.chart.specs.Calls.{accepted, resultOf}
-use Rattle.chart.specs.declared.Chart.{Chart}
+use Rattle.chart_state.specs.declared.Chart.{Chart}
 use Rattle.chart.specs.declared.ChartResult.{ChartResult}
 use Rattle.chart.proofs.Soundness.{FineCall, call-cases, fine-set}
 use Rattle.encoding.specs.Places.{word, isNatural, natural, place}

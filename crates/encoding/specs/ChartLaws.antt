@@ -7,9 +7,9 @@ use lib.IntN.{ℤ}
 use lib.ListN.{length, take, getD}
 use Rattle.chart_sets.specs.Sets.{blankSet}
 use Rattle.chart_sets.specs.declared.ChartSet.{ChartSet}
-use Rattle.chart.specs.Charts.{freshChart}
+use Rattle.chart_state.specs.Charts.{freshChart}
 use Rattle.chart.specs.Calls.{resultOf}
-use Rattle.chart.specs.declared.Chart.{Chart}
+use Rattle.chart_state.specs.declared.Chart.{Chart}
 use Rattle.encoding.specs.ChartWords.{chartWords, chartAt, isChart}
 use Rattle.encoding.specs.StationLaws.{Fits, Places}
 

@@ -6,7 +6,7 @@ use lib.IntN.{ℤ}
 use lib.ListN.{getD}
 use Rattle.chart_sets.specs.Sets.{blankSet}
 use Rattle.chart_sets.specs.declared.ChartSet.{ChartSet}
-use Rattle.chart.specs.declared.Chart.{Chart}
+use Rattle.chart_state.specs.declared.Chart.{Chart}
 use Rattle.encoding.specs.Places.{word, isNatural, natural, place}
 
 -- ---- encoding

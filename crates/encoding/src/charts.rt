@@ -1,7 +1,7 @@
 // A chart in 15 places.
 use super::words;
-use chart::Chart;
 use chart_sets::ChartSet;
+use chart_state::Chart;
 use whole::flags;
 ghost use mathlib.Core.Path.{_≡_};
 ghost use Prim.Native.Nat.{_+_, _≤_};

@@ -5,7 +5,7 @@ use lib.ListN.{take, length}
 use denote.Ref.{now}
 use Rattle.chart.specs.Calls.{resultOf}
 use Rattle.chart.proofs.Charted.{enough-room}
-use Rattle.chart.specs.declared.Values.{Values}
+use Rattle.chart_line.specs.declared.Values.{Values}
 use Rattle.chart.specs.declared.ChartAnswer.{ChartAnswer}
 use Rattle.chart.specs.declared.ChartAnswer.the-variants.{Charted}
 use Rattle.chart.specs.Calls as Call

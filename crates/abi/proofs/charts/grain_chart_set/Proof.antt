@@ -4,7 +4,7 @@ use mir.Val.{SFits}
 use borrow.Author.Tests.{not-true, not-false}
 use Rattle.whole.proofs.Read.{back}
 use Rattle.chart.specs.Calls.{chartSetOf}
-use Rattle.chart.specs.declared.Chart.{Chart}
+use Rattle.chart_state.specs.declared.Chart.{Chart}
 use Rattle.abi.specs.ChartCalls.{chartSetDone}
 use Rattle.abi.proofs.ChartTests.{set-short, set-result, set-none, set-done, with-line}
 use borrow.Author.Needs.{needs}

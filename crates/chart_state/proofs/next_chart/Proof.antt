@@ -1,8 +1,8 @@
--- `chart::next_chart` meets its contract.
-use Rattle.chart.specs.Charts.{nextChart}
+-- `chart_state::next_chart` meets its contract.
+use Rattle.chart_state.specs.Charts.{nextChart}
 use borrow.Author.Needs.{needs}
-use Rattle.chart.proofs.next_chart.Statement.{statement}
-use Rattle.chart.proofs.next_chart.Tie as tie
+use Rattle.chart_state.proofs.next_chart.Statement.{statement}
+use Rattle.chart_state.proofs.next_chart.Tie as tie
 
 shifted-requires : tie.Need-shifted-requires
 shifted-requires c κs = search needs

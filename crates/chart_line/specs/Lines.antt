@@ -7,9 +7,9 @@ use Rattle.chart_sets.specs.declared.ChartSet.{ChartSet}
 use Rattle.chart_rules.specs.Rows.{limitsOf}
 use Rattle.chart_rules.specs.Rules.{absolute, tolerance, rangeAbsolute, rangeTolerance}
 use Rattle.chart_run.specs.Run.{run}
-use Rattle.chart.specs.Charts.{pastOf}
-use Rattle.chart.specs.declared.Chart.{Chart}
-use Rattle.chart.specs.declared.Values.{Values}
+use Rattle.chart_state.specs.Charts.{pastOf}
+use Rattle.chart_state.specs.declared.Chart.{Chart}
+use Rattle.chart_line.specs.declared.Values.{Values}
 
 -- week, count, sum of differences, range, then average absolute, tolerance, run, range absolute, range tolerance
 unfoldable pub valuesOf : Chart → ℕ → ChartSet → Values

@@ -1,9 +1,9 @@
--- `chart::put_flags` meets its contract.
+-- `chart_line::put_flags` meets its contract.
 use Rattle.decimal.proofs.Put.{put-then}
-use Rattle.chart.specs.Lines.{flagBytes}
+use Rattle.chart_line.specs.Lines.{flagBytes}
 use borrow.Author.Needs.{needs}
-use Rattle.chart.proofs.put_flags.Statement.{statement}
-use Rattle.chart.proofs.put_flags.Tie as tie
+use Rattle.chart_line.proofs.put_flags.Statement.{statement}
+use Rattle.chart_line.proofs.put_flags.Tie as tie
 
 put-flag-requires : tie.Need-put-flag-requires
 put-flag-requires c κs = search needs

@@ -1,10 +1,10 @@
--- `chart::sound` meets its contract.
+-- `chart_state::sound` meets its contract.
 use mathlib.Core.Path.{refl, _∙_}
 use Rattle.chart_sets.proofs.Flags.{and2}
-use Rattle.chart.specs.Charts.{sound}
+use Rattle.chart_state.specs.Charts.{sound}
 use borrow.Author.Needs.{needs}
-use Rattle.chart.proofs.sound.Statement.{statement}
-use Rattle.chart.proofs.sound.Tie as tie
+use Rattle.chart_state.proofs.sound.Statement.{statement}
+use Rattle.chart_state.proofs.sound.Tie as tie
 
 both-requires : tie.Need-both-requires
 both-requires c κs = search needs

@@ -1,13 +1,13 @@
--- `chart::shifted` meets its contract.
+-- `chart_state::shifted` meets its contract.
 use mathlib.Core.Path.{_≡_, ap}
 use mathlib.Core.List.{List, _∷_}
 use lib.ListN.{length}
-use Rattle.chart.proofs.Places.{first-three}
+use Rattle.chart_state.proofs.Places.{first-three}
 use Rattle.chart_sets.specs.Sets.{blankSet}
 use Rattle.chart_sets.specs.declared.ChartSet.{ChartSet}
 use borrow.Author.Needs.{needs}
-use Rattle.chart.proofs.shifted.Statement.{statement}
-use Rattle.chart.proofs.shifted.Tie as tie
+use Rattle.chart_state.proofs.shifted.Statement.{statement}
+use Rattle.chart_state.proofs.shifted.Tie as tie
 
 array-copy-out-t6 : tie.Need-array-copy-out-t6
 array-copy-out-t6 c = search needs

@@ -1,4 +1,4 @@
--- `chart::values_of` meets its contract.
+-- `chart_line::values_of` meets its contract.
 use mathlib.Core.Path.{ap, _∙_}
 use mir.Syntax.{w32}
 use mir.Val.{SFits}
@@ -7,13 +7,13 @@ use Rattle.whole.proofs.Read.{back}
 use Rattle.chart_rules.specs.declared.Limits.{Limits}
 use Rattle.chart_rules.specs.Rules.{absolute, tolerance, rangeTolerance}
 use Rattle.chart_run.specs.Run.{run}
-use Rattle.chart.specs.Charts.{pastOf}
-use Rattle.chart.specs.Lines.{valuesOf}
+use Rattle.chart_state.specs.Charts.{pastOf}
+use Rattle.chart_line.specs.Lines.{valuesOf}
 use borrow.Author.Needs.{needs}
 use Rattle.chart_rules.specs.Rows.{SmallLimits}
 use Rattle.chart_rules.proofs.Rows.{row-small}
-use Rattle.chart.proofs.values_of.Statement.{statement}
-use Rattle.chart.proofs.values_of.Tie as tie
+use Rattle.chart_line.proofs.values_of.Statement.{statement}
+use Rattle.chart_line.proofs.values_of.Tie as tie
 
 -- the row's limits are small
 small : (c : tie.After-limits-of) → SmallLimits (c .limits-of .result)

@@ -1,4 +1,4 @@
--- The held ones of a chart's four places, and the length of the flags.
+-- The held ones of a chart's four places.
 use mathlib.Core.Path.{_≡_, refl, sym, ap}
 use mathlib.Core.Bool.{Bool, _&&_, _||_}
 use mathlib.Core.List.{List, [], _∷_}
@@ -9,8 +9,6 @@ use lib.Dec.{ltb}
 use borrow.Author.Tests.{le-ltb}
 use Rattle.whole.specs.Lists.{all}
 use Rattle.whole.proofs.Tests.{and-true}
-use Rattle.chart.specs.Lines.{flagBytes}
-use Rattle.chart.specs.declared.Values.{Values}
 
 module _ {A : Type 0} where
   pub all-held : (p : A → Bool) (d : A) (n : ℕ) (l : List A) → length l ≡ 4
@@ -35,7 +33,3 @@ module _ {A : Type 0} where
   first-three d (x ∷ []) e = absurd (omega arith)
   first-three d (x ∷ y ∷ []) e = absurd (omega arith)
   first-three d (x ∷ y ∷ z ∷ l) e = refl
-
-pub flags-length : (v : Values) → length (flagBytes v) ≡ 10
-unfolding flagBytes
-flags-length v = refl

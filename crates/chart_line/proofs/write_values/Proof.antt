@@ -1,4 +1,4 @@
--- `chart::write_values` meets its contract.
+-- `chart_line::write_values` meets its contract.
 use mathlib.Core.Path.{_≡_, ap}
 use native.Mathlib.Omega.{arith}
 use mathlib.Core.List.{_∷_}
@@ -12,11 +12,11 @@ use Rattle.decimal.proofs.Show.{width-5}
 use Rattle.decimal.proofs.Signs.{width-signed}
 use Rattle.decimal.proofs.Put.{put-then, put-is}
 use Rattle.decimal.specs.Show.{showSigned}
-use Rattle.chart.specs.Lines.{lineOf}
-use Rattle.chart.proofs.Places.{flags-length}
+use Rattle.chart_line.specs.Lines.{lineOf}
+use Rattle.chart_line.proofs.Lines.{flags-length}
 use borrow.Author.Needs.{needs}
-use Rattle.chart.proofs.write_values.Statement.{statement}
-use Rattle.chart.proofs.write_values.Tie as tie
+use Rattle.chart_line.proofs.write_values.Statement.{statement}
+use Rattle.chart_line.proofs.write_values.Tie as tie
 
 after-week : (c : tie.After-put-number) → (c .put-number .result ≤ c .before .before .before .args .at + 5) × (c .before .before .before .args .at + 40 ≤ length (c .put-number .last .0))
 after-week c =

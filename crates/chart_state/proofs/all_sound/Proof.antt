@@ -1,4 +1,4 @@
--- `chart::all_sound` meets its contract.
+-- `chart_state::all_sound` meets its contract.
 use Rattle.chart_sets.proofs.Flags.{or-right, and2}
 use lib.Dec.{ltb}
 use lib.IntN.{pos}
@@ -6,10 +6,10 @@ use Rattle.chart_sets.specs.declared.ChartSet.{ChartSet}
 use Rattle.chart_sets.specs.Soundness.{soundSet}
 use lib.ListN.{length}
 use mathlib.Core.Path.{_≡_, _∙_}
-use Rattle.chart.proofs.Places.{all-held}
+use Rattle.chart_state.proofs.Places.{all-held}
 use borrow.Author.Needs.{needs}
-use Rattle.chart.proofs.all_sound.Statement.{statement}
-use Rattle.chart.proofs.all_sound.Tie as tie
+use Rattle.chart_state.proofs.all_sound.Statement.{statement}
+use Rattle.chart_state.proofs.all_sound.Tie as tie
 
 array-copy-out-sound-set : tie.Need-array-copy-out-sound-set
 array-copy-out-sound-set c = search needs
