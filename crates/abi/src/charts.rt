@@ -136,7 +136,7 @@ fn text_code(answer: TextAnswer) -> Int
 {
     match answer {
         TextAnswer::Written(_) => Int { z: 100 },
-        TextAnswer::Refused(r, _) => whole::of_u32(chart_file::number_of(r)),
+        TextAnswer::Refused(r, _) => whole::of_u32(chart_print::number_of(r)),
     }
 }
 

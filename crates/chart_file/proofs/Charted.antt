@@ -23,7 +23,7 @@ use Rattle.chart_state.specs.declared.Chart.{Chart}
 use Rattle.chart.specs.declared.Judgement.the-variants as J
 use Rattle.chart.proofs.Soundness.{stays-sound}
 use Rattle.chart_judge.specs.Judging.{Check, valueLines, firstRefusal, linesChecks, textChecks, starts, verdict, judged, FineLine, GoodLines}
-use Rattle.chart_file.specs.Gathering.{Gathered, none, pair, joined, finished, closed, kept, setsOf}
+use Rattle.chart_gather.specs.Gathering.{Gathered, none, pair, joined, finished, closed, kept, setsOf}
 use Rattle.chart_file.specs.Texts.{outputNames, textSets, textLines, outputOf, answerOf}
 use Rattle.chart_judge.specs.Refusals.{numberOf}
 use Rattle.chart_file.specs.Laws.{AllCharted, setResults, lineResults, valuesOf, GoodCharted, programRoom, ProgramFits}
@@ -35,7 +35,8 @@ use Rattle.chart_judge.specs.declared.Verdict.the-variants as Ver
 use Rattle.chart_file.specs.declared.TextAnswer.{TextAnswer}
 use Rattle.chart_file.specs.declared.TextAnswer.the-variants.{Written, Refused}
 use Rattle.chart_judge.proofs.Judging.{fine-next, fine-start, fine-first, fine-text, one-or-none, not-one}
-use Rattle.chart_file.proofs.Gathering.{finished-some, first-sets, closed-start, closed-next, kept-start, kept-next, text-count, text-short}
+use Rattle.chart_gather.proofs.Gathering.{finished-some, closed-start, closed-next, kept-start, kept-next}
+use Rattle.chart_file.proofs.Gathering.{first-sets, text-count, text-short}
 use Rattle.chart_file.proofs.Answering.{refused-answer, full-answer, written-fine}
 
 -- sample 1, or not

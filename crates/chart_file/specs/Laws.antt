@@ -14,7 +14,7 @@ use Rattle.chart.specs.Calls.{resultOf}
 use Rattle.chart.specs.Answers.{chartSays}
 use Rattle.chart_state.specs.declared.Chart.{Chart}
 use Rattle.chart_judge.specs.Judging.{valueLines}
-use Rattle.chart_file.specs.Gathering.{Gathered, pair}
+use Rattle.chart_gather.specs.Gathering.{Gathered, pair}
 use Rattle.chart_file.specs.Texts.{textSets, answerOf, chartTextOf}
 use Rattle.chart_file.specs.Answers.{textSays}
 use Rattle.chart_file.specs.declared.TextAnswer.the-variants.{Written}

@@ -9,7 +9,7 @@ use lib.Dec.{eqb}
 use Rattle.chart_lines.specs.declared.ValueLine.{ValueLine}
 use Rattle.chart_lines.specs.declared.LineRead.{LineRead}
 use Rattle.chart_lines.specs.declared.LineRead.the-variants.{Values, Bad}
-use Rattle.chart_file.specs.declared.TextSet.{TextSet}
+use Rattle.chart_gather.specs.declared.TextSet.{TextSet}
 
 -- a set of a text: its week and its results, original and monitor in turn
 pub record Gathered : Type 0 where

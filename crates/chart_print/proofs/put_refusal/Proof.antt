@@ -1,13 +1,13 @@
--- `chart_file::put_refusal` meets its contract.
+-- `chart_print::put_refusal` meets its contract.
 use native.Mathlib.Omega.{arith}
 use Prim.Native.Nat.{_≤_}
 use lib.ListN.{length}
 use Rattle.decimal.proofs.Show.{width-10}
 use Rattle.decimal.proofs.Put.{put-then}
-use Rattle.chart_file.specs.Texts.{refusalBytes}
+use Rattle.chart_print.specs.Printing.{refusalBytes}
 use borrow.Author.Needs.{needs}
-use Rattle.chart_file.proofs.put_refusal.Statement.{statement}
-use Rattle.chart_file.proofs.put_refusal.Tie as tie
+use Rattle.chart_print.proofs.put_refusal.Statement.{statement}
+use Rattle.chart_print.proofs.put_refusal.Tie as tie
 
 after-word : (c : tie.After-put-bytes) → (c .put-bytes .result ≤ 7) × (40 ≤ length (c .put-bytes .last .0))
 after-word c = omega (arith, c .put-bytes .ensures .behind, c .put-bytes .kept .0, c .before .before .before .before .before .pre)

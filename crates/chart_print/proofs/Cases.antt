@@ -14,9 +14,11 @@ use Rattle.chart_state.specs.Charts.{sound, nextChart}
 use Rattle.chart_line.specs.Lines.{valuesOf, flagBytes, lineOf}
 use Rattle.chart.specs.Calls.{refusalOf, decided, accepted, resultOf, bytesOf as lineBytes}
 use Rattle.chart_judge.specs.Judging.{linesFrom, linesAt, isNext, isStart}
-use Rattle.chart_file.specs.Gathering.{finished, closed, kept, setsOf}
-use Rattle.chart_file.specs.Texts.{chartAll, textSets, textLines, outputOf, answerOf, refusalBytes, spoken, printed}
-use Rattle.chart_file.specs.Cases.{texts}
+use Rattle.chart_gather.specs.Gathering.{finished, closed, kept, setsOf}
+use Rattle.chart_gather.specs.Charting.{chartAll}
+use Rattle.chart_print.specs.Printing.{refusalBytes, spoken, printed}
+use Rattle.chart_file.specs.Texts.{textSets, textLines, outputOf, answerOf}
+use Rattle.chart_print.specs.Cases.{texts}
 
 pub texts-hold : map (λ c. c .gives) texts ≡ map (λ c. c .says) texts
 unfolding shown show showSigned isDigit digits number numberAt ended field then lineAt startsWith badSize outside badResult setOf soundSet limitsOf absolute atOrAbove atOrBelow tolerance rangeTolerance above below oneSide sixtieths runBy run sound nextChart valuesOf flagBytes lineOf badWeek refusalOf decided accepted resultOf lineBytes linesFrom linesAt isNext isStart finished closed kept setsOf chartAll textSets textLines outputOf answerOf refusalBytes spoken printed texts

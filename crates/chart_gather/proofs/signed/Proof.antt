@@ -1,10 +1,10 @@
--- `chart_file::signed` meets its contract.
+-- `chart_gather::signed` meets its contract.
 use lib.IntN.{pos}
 use mir.Syntax.{w32}
 use mir.ValLaws.{toZ-ofZ}
 use borrow.Author.Needs.{needs}
-use Rattle.chart_file.proofs.signed.Statement.{statement}
-use Rattle.chart_file.proofs.signed.Tie as tie
+use Rattle.chart_gather.proofs.signed.Statement.{statement}
+use Rattle.chart_gather.proofs.signed.Tie as tie
 
 cast-result : tie.Need-cast-result
 cast-result c = search needs

@@ -1,15 +1,15 @@
--- `chart_file::take_line` meets its contract.
+-- `chart_gather::take_line` meets its contract.
 use mathlib.Core.Path.{refl, sym, ap, _∙_}
 use native.Mathlib.Omega.{arith}
 use lib.ListN.{length}
 use Rattle.decimal.proofs.Put.{put-is}
-use Rattle.chart_file.specs.Gathering.{Gathered, seen, joined}
-use Rattle.chart_file.specs.Texts.{chartAll, chartAfter}
-use Rattle.chart_file.proofs.Gathering.{closed-start, closed-next, kept-start, kept-next}
+use Rattle.chart_gather.specs.Gathering.{Gathered, seen, joined}
+use Rattle.chart_gather.specs.Charting.{chartAll, chartAfter}
+use Rattle.chart_gather.proofs.Gathering.{closed-start, closed-next, kept-start, kept-next}
 use Rattle.chart_judge.proofs.Judging.{fine-results, fine-next}
 use borrow.Author.Needs.{needs}
-use Rattle.chart_file.proofs.take_line.Statement.{statement}
-use Rattle.chart_file.proofs.take_line.Tie as tie
+use Rattle.chart_gather.proofs.take_line.Statement.{statement}
+use Rattle.chart_gather.proofs.take_line.Tie as tie
 
 flush-requires : tie.Need-flush-requires
 flush-requires c κs =

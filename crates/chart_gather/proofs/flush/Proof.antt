@@ -1,4 +1,4 @@
--- `chart_file::flush` meets its contract.
+-- `chart_gather::flush` meets its contract.
 use Prim.Native.Nat.{_+_, _-_, _≤_, ℕ, _*_}
 use mathlib.Core.List.{_∷_, []}
 use lib.ListN.{take, length}
@@ -9,15 +9,16 @@ use Rattle.chart_line.specs.declared.Values.{Values}
 use Rattle.chart.specs.declared.ChartAnswer.{ChartAnswer}
 use Rattle.chart.specs.declared.ChartAnswer.the-variants.{Charted}
 use Rattle.chart.specs.Calls as Call
-use Rattle.chart_file.specs.Gathering.{finished, seen}
-use Rattle.chart_file.proofs.Gathering.{chart-short, seen-none, seen-some, flush-chart, flush-bytes, flush-length}
+use Rattle.chart_gather.specs.Gathering.{finished, seen}
+use Rattle.chart_gather.proofs.Gathering.{seen-none, seen-some}
+use Rattle.chart_gather.proofs.Charting.{chart-short, flush-chart, flush-bytes, flush-length}
 use mathlib.Core.Path.{_≡_, refl, sym, ap, _∙_}
 use native.Mathlib.Omega.{arith}
 use Rattle.decimal.proofs.Put.{put-is}
-use Rattle.chart_file.specs.Texts.{chartAll, chartAfter}
+use Rattle.chart_gather.specs.Charting.{chartAll, chartAfter}
 use borrow.Author.Needs.{needs}
-use Rattle.chart_file.proofs.flush.Statement.{statement}
-use Rattle.chart_file.proofs.flush.Tie as tie
+use Rattle.chart_gather.proofs.flush.Statement.{statement}
+use Rattle.chart_gather.proofs.flush.Tie as tie
 
 fin : (c : tie.After-chart-at) → finished (seen (c .before .before .before .before .before .before .before .args .s)) ≡ seen (c .before .before .before .before .before .before .before .args .s) ∷ []
 fin c =

@@ -3,8 +3,9 @@ use Prim.Native.Nat.{ℕ}
 use mathlib.Core.List.{List, [], _∷_, _++_}
 use Rattle.chart_lines.specs.Names.{namesLine}
 use Rattle.chart.specs.Cases.{line26}
-use Rattle.chart_file.specs.Texts.{outputNames, printed}
+use Rattle.chart_print.specs.Printing.{printed}
+use Rattle.chart_file.specs.Texts.{outputNames}
 use Rattle.chart_file.specs.Laws.{programRoom}
 
 pub record TextCase : Type 0 where
   pub gives : List ℕ

@@ -1,4 +1,4 @@
--- `chart_file::joined` meets its contract.
+-- `chart_gather::joined` meets its contract.
 use mathlib.Core.Path.{_≡_, refl, _∙_}
 use native.Mathlib.Omega.{arith}
 use Prim.Native.Nat.{_+_, _*_}
@@ -6,11 +6,11 @@ use lib.ListN.{length, take, set}
 use mir.Syntax.{w32}
 use mir.Val.{SFits}
 use mir.ValLaws.{toZ-ofZ}
-use Rattle.chart_file.specs.Gathering.{seen}
-use Rattle.chart_file.proofs.Gathering.{grown}
+use Rattle.chart_gather.specs.Gathering.{seen}
+use Rattle.chart_gather.proofs.Gathering.{grown}
 use borrow.Author.Needs.{needs}
-use Rattle.chart_file.proofs.joined.Statement.{statement}
-use Rattle.chart_file.proofs.joined.Tie as tie
+use Rattle.chart_gather.proofs.joined.Statement.{statement}
+use Rattle.chart_gather.proofs.joined.Tie as tie
 
 mul-i : tie.Need-mul-i
 mul-i c = search needs

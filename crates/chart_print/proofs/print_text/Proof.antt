@@ -1,10 +1,10 @@
--- `chart_file::print_text` meets its contract.
+-- `chart_print::print_text` meets its contract.
 use borrow.Author.Needs.{needs}
 use native.Mathlib.Omega.{arith}
 use Rattle.decimal.proofs.Put.{put-whole}
-use Rattle.chart_file.proofs.Answering.{printed-short, printed-written, printed-refused}
-use Rattle.chart_file.proofs.print_text.Statement.{statement}
-use Rattle.chart_file.proofs.print_text.Tie as tie
+use Rattle.chart_print.proofs.Printing.{printed-short, printed-written, printed-refused}
+use Rattle.chart_print.proofs.print_text.Statement.{statement}
+use Rattle.chart_print.proofs.print_text.Tie as tie
 
 returns : tie.Need-returns
 returns c = printed-short _ _ (c .if1 .taken)
