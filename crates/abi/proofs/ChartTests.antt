@@ -13,9 +13,9 @@ use Rattle.chart.specs.Calls.{chartSetOf}
 use Rattle.chart_state.specs.declared.Chart.{Chart}
 use Rattle.chart.specs.declared.ChartAnswer.{ChartAnswer}
 use Rattle.chart.specs.declared.ChartAnswer.the-variants.{Charted, Refused}
-use Rattle.chart_judge.specs.Refusals as texts
-use Rattle.chart_judge.specs.declared.TextRefusal.{TextRefusal}
-use Rattle.chart_judge.specs.declared.TextRefusal.the-variants.{TooLong, BadNames, BadLine, BadSample, BadWeek, BadResult, ShortBuffer}
+use Rattle.chart_ruling.specs.Refusals as texts
+use Rattle.chart_ruling.specs.declared.TextRefusal.{TextRefusal}
+use Rattle.chart_ruling.specs.declared.TextRefusal.the-variants.{TooLong, BadNames, BadLine, BadSample, BadWeek, BadResult, ShortBuffer}
 use Rattle.chart_file.specs.Texts.{chartTextOf}
 use Rattle.encoding.specs.ChartWords.{setsWords, chartWords, chartAt, isChart}
 use Rattle.abi.specs.Codes.{shortState, shortResult, Left, untouched}

@@ -6,7 +6,7 @@ use lib.Dec.{ltb}
 use lib.IntN.{ℤ, pos}
 use lib.ListN.{length}
 use Rattle.decimal.specs.Put.{overwritten}
-use Rattle.chart.specs.Refusals.{numberOf}
+use Rattle.chart_refusals.specs.Refusals.{numberOf}
 use Rattle.chart.specs.Openings.{openOf}
 use Rattle.chart.specs.Calls.{SetCharted, chartSetOf}
 use Rattle.chart_state.specs.declared.Chart.{Chart}
@@ -15,7 +15,7 @@ use Rattle.chart.specs.declared.OpenAnswer.{OpenAnswer}
 use Rattle.chart.specs.declared.OpenAnswer.the-variants.{Opened}
 use Rattle.chart.specs.declared.ChartAnswer.{ChartAnswer}
 use Rattle.chart.specs.declared.ChartAnswer.the-variants.{Charted}
-use Rattle.chart_judge.specs.Refusals as texts
+use Rattle.chart_ruling.specs.Refusals as texts
 use Rattle.chart_file.specs.Texts.{TextCharted, chartTextOf}
 use Rattle.chart_file.specs.declared.TextAnswer.{TextAnswer}
 use Rattle.chart_file.specs.declared.TextAnswer.the-variants.{Written}

@@ -2,9 +2,9 @@
 use chart::ChartAnswer;
 use chart::ChartResult;
 use chart::OpenAnswer;
-use chart::Refusal;
 use chart_file::TextAnswer;
 use chart_line::Values;
+use chart_refusals::Refusal;
 use encoding::charts;
 use encoding::words;
 use whole::Int;
@@ -14,7 +14,7 @@ ghost use Prim.Native.Nat.{_+_, _≤_};
 ghost use lib.IntN.{pos};
 ghost use lib.ListN.{length};
 ghost use Rattle.decimal.specs.Put.{Put};
-ghost use Rattle.chart.specs.Refusals.{numberOf};
+ghost use Rattle.chart_refusals.specs.Refusals.{numberOf};
 ghost use Rattle.abi.specs.ChartCalls.{chartOpenCode, chartOpenCall, flag as flagOf, valuesWords, chartSetDone, chartSetCall, textCode, textPlace, textCall};
 
 // The paper's number of a refusal.

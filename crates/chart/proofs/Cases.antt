@@ -9,7 +9,8 @@ use Rattle.chart_rules.specs.Rules.{absolute, atOrAbove, atOrBelow, tolerance, 
 use Rattle.chart_run.specs.Run.{above, below, oneSide, sixtieths, runBy, run}
 use Rattle.chart_state.specs.Charts.{sound, freshChart, nextChart}
 use Rattle.chart_line.specs.Lines.{valuesOf, flagBytes, lineOf}
-use Rattle.chart.specs.Calls.{refusalOf, decided, accepted, resultOf, bytesOf}
+use Rattle.chart_refusals.specs.Checks.{refusalOf}
+use Rattle.chart.specs.Calls.{decided, accepted, resultOf, bytesOf}
 use Rattle.chart.specs.Cases.{runs, week26, line26}
 
 pub runs-hold : map (λ c. c .gives) runs ≡ map (λ c. c .says) runs

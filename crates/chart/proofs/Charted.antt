@@ -10,7 +10,8 @@ use borrow.Author.Tests.{le-ltb}
 use Rattle.decimal.specs.Put.{overwritten}
 use Rattle.chart_sets.specs.Sets.{setOf}
 use Rattle.chart_line.specs.Lines.{valuesOf, lineOf}
-use Rattle.chart.specs.Calls.{refusalOf, accepted, resultOf, bytesOf, SetCharted, chartSetOf}
+use Rattle.chart_refusals.specs.Checks.{refusalOf}
+use Rattle.chart.specs.Calls.{accepted, resultOf, bytesOf, SetCharted, chartSetOf}
 use Rattle.chart.specs.Answers.{chartSays}
 use Rattle.chart.specs.Laws.{RefusedUntouched, LineFits}
 use Rattle.chart_state.specs.declared.Chart.{Chart}
@@ -18,7 +19,8 @@ use Rattle.chart_line.specs.declared.Values.{Values}
 use Rattle.chart.specs.declared.ChartResult.{ChartResult}
 use Rattle.chart.specs.declared.ChartAnswer.the-variants.{Charted}
 use Rattle.chart_line.proofs.Lines.{values-small, line-short}
-use Rattle.chart.proofs.Soundness.{FineCall, call-cases, fine-set}
+use Rattle.chart_refusals.proofs.Fine.{FineCall}
+use Rattle.chart.proofs.Soundness.{call-cases, fine-set}
 use Rattle.chart_sets.proofs.Sums.{week-facts}
 
 -- a buffer of 40 bytes is as good as any longer one

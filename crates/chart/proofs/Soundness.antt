@@ -1,54 +1,32 @@
--- What a call that is not refused knows; a sound chart stays sound.
+-- The two ways of a call; a sound chart stays sound.
 use mathlib.Core.Path.{_≡_, refl}
-use mathlib.Core.Bool.{Bool, true, false, cond, not}
+use mathlib.Core.Bool.{true, false, cond, not}
 use mathlib.Core.Option.{none, some}
 use mathlib.Core.List.{List}
-use Prim.Native.Nat.{ℕ, _≤_}
+use Prim.Native.Nat.{ℕ}
 use native.Mathlib.Omega.{arith}
 use lib.IntN.{ℤ}
-use lib.ListN.{length}
-use borrow.Author.Tests.{ltb-false, not-false}
 use Rattle.whole.proofs.ListLaws.{by-test}
-use Rattle.chart_sets.specs.Sets.{badWeek, badSize, badResult, setOf}
+use Rattle.chart_sets.specs.Sets.{setOf}
 use Rattle.chart_sets.specs.Soundness.{SetFits}
 use Rattle.chart_sets.proofs.Soundness.{set-fits, set-sound}
+use Rattle.chart_refusals.proofs.Fine.{FineCall, fine-call}
 use Rattle.chart_rules.specs.Rows.{rowExists}
 use Rattle.chart.specs.Openings.{opening, openOf}
 use Rattle.chart_state.specs.Charts.{sound}
 use Rattle.chart.specs.Answers.{openSays}
-use Rattle.chart.specs.Calls.{refusalOf, decided, accepted, resultOf}
+use Rattle.chart_refusals.specs.Checks.{refusalOf}
+use Rattle.chart.specs.Calls.{decided, accepted, resultOf}
 use Rattle.chart.specs.Laws.{StaysSound, OpenedExactly, LowestNumber}
 use Rattle.chart_state.specs.declared.Chart.{Chart}
 use Rattle.chart.specs.declared.OpenAnswer.the-variants as Open
-use Rattle.chart.specs.declared.Refusal.the-variants.{UnknownRow}
+use Rattle.chart_refusals.specs.declared.Refusal.the-variants.{UnknownRow}
 use Rattle.chart.specs.declared.ChartResult.{ChartResult}
 use Rattle.chart.specs.declared.ChartAnswer.the-variants.{Refused}
-use Rattle.chart.specs.declared.Refusal.{Refusal}
-use Rattle.chart.specs.declared.Judgement.{Judgement}
-use Rattle.chart.specs.declared.Judgement.the-variants as J
+use Rattle.chart_refusals.specs.declared.Refusal.{Refusal}
+use Rattle.chart_refusals.specs.declared.Judgement.{Judgement}
+use Rattle.chart_refusals.specs.declared.Judgement.the-variants as J
 use Rattle.chart_state.proofs.Soundness.{next-sound, fresh-sound}
-
--- ---- a call that is not refused
-fine-head : (b : Bool) (r : Refusal) (rest : Judgement) → cond b (J.Refused r) rest ≡ J.Fine → (b ≡ false) × (rest ≡ J.Fine)
-fine-head true r rest e = let z : _≡_ {A = ℕ} 0 1 = cc in absurd (omega arith)
-fine-head false r rest e = (refl, e)
-
-pub record FineCall (c : Chart) (week : ℕ) (numbers : List ℤ) (room : ℕ) : Type 0 where
-  pub whole : sound c ≡ true
-  pub time : badWeek (c .week) week ≡ false
-  pub size : badSize (length numbers) ≡ false
-  pub results : badResult numbers ≡ false
-  pub place : 40 ≤ room
-
-pub fine-call : (c : Chart) (week : ℕ) (numbers : List ℤ) (room : ℕ) → refusalOf c week numbers room ≡ J.Fine → FineCall c week numbers room
-unfolding refusalOf
-fine-call c week numbers room e =
-    let a = fine-head _ _ _ e in
-    let b = fine-head _ _ _ (a .1) in
-    let d = fine-head _ _ _ (b .1) in
-    let f = fine-head _ _ _ (d .1) in
-    let g = fine-head _ _ _ (f .1) in
-    record { whole = not-false _ (a .0); time = b .0; size = d .0; results = f .0; place = ltb-false room 40 (g .0) }
 
 -- the two ways of a call
 pub call-cases : (c : Chart) (week : ℕ) (numbers : List ℤ) (room : ℕ) (P : ChartResult → Type 0)

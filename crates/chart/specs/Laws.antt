@@ -7,10 +7,11 @@ use mathlib.Core.Option.{none, some}
 use lib.IntN.{ℤ}
 use lib.ListN.{length}
 use Rattle.chart_rules.specs.Rows.{rowExists}
-use Rattle.chart.specs.Refusals.{numberOf}
+use Rattle.chart_refusals.specs.Refusals.{numberOf}
 use Rattle.chart.specs.Openings.{openOf}
 use Rattle.chart_state.specs.Charts.{sound}
-use Rattle.chart.specs.Calls.{checksOf, resultOf, bytesOf, chartSetOf}
+use Rattle.chart_refusals.specs.Checks.{checksOf}
+use Rattle.chart.specs.Calls.{resultOf, bytesOf, chartSetOf}
 use Rattle.chart.specs.Answers.{openSays, chartSays}
 use Rattle.chart_state.specs.declared.Chart.{Chart}
 

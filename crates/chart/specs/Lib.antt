@@ -1,4 +1,3 @@
-pub mod Refusals
 pub mod Openings
 pub mod Calls
 pub mod Answers

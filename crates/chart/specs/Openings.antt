@@ -4,12 +4,12 @@ use mathlib.Core.Bool.{not}
 use mathlib.Core.List.{List, [], _∷_}
 use Rattle.chart_rules.specs.Rows.{rowExists}
 use Rattle.chart_state.specs.Charts.{freshChart}
-use Rattle.chart.specs.Refusals.{Check, firstRefusal}
-use Rattle.chart.specs.declared.Judgement.{Judgement}
-use Rattle.chart.specs.declared.Judgement.the-variants as J
+use Rattle.chart_refusals.specs.Refusals.{Check, firstRefusal}
+use Rattle.chart_refusals.specs.declared.Judgement.{Judgement}
+use Rattle.chart_refusals.specs.declared.Judgement.the-variants as J
 use Rattle.chart.specs.declared.Opening.{Opening}
 use Rattle.chart.specs.declared.OpenAnswer.the-variants.{Opened, Refused}
-use Rattle.chart.specs.declared.Refusal.the-variants.{UnknownRow}
+use Rattle.chart_refusals.specs.declared.Refusal.the-variants.{UnknownRow}
 
 -- 1: the chart row doesn't exist
 abbrev pub openChecks : ℕ → List Check

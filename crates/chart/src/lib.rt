@@ -1,27 +1,14 @@
 // Control charts: opening, and one set charted.
 use chart_line::Values;
+use chart_refusals::Judgement;
+use chart_refusals::Refusal;
 use chart_state::Chart;
 ghost use mathlib.Core.Path.{_≡_};
 ghost use Prim.Native.Nat.{_+_, _-_, _≤_};
 ghost use lib.ListN.{length};
 ghost use Rattle.decimal.specs.Put.{Put};
 ghost use Rattle.chart.specs.Openings.{openOf};
-ghost use Rattle.chart.specs.Calls.{refusalOf, resultOf, bytesOf, chartSetOf};
-
-// Numbers 0, 1 and 19 to 22.
-pub enum Refusal {
-    UnsoundChart,
-    UnknownRow,
-    BadWeek,
-    BadSize,
-    BadResult,
-    ShortBuffer,
-}
-
-pub enum Judgement {
-    Fine,
-    Refused(Refusal),
-}
+ghost use Rattle.chart.specs.Calls.{resultOf, bytesOf, chartSetOf};
 
 pub enum OpenAnswer {
     Opened,
@@ -66,28 +53,6 @@ pub fn open(row: usize) -> Opening
 
 // ---- the call
 
-// The first refusal that applies, for a buffer with room for so many bytes.
-fn judge_call(chart: Chart, week: u32, numbers: &[i32], room: usize) -> Judgement
-    ensures { λ r. ⌜ r ≡ refusalOf chart week (now (numbers .entry)) room ⌝ }
-{
-    if !chart_state::sound(chart) {
-        return Judgement::Refused(Refusal::UnsoundChart);
-    }
-    if chart_sets::bad_week(chart.week, week) {
-        return Judgement::Refused(Refusal::BadWeek);
-    }
-    if chart_sets::bad_size(numbers.len()) {
-        return Judgement::Refused(Refusal::BadSize);
-    }
-    if chart_sets::bad_result(numbers) {
-        return Judgement::Refused(Refusal::BadResult);
-    }
-    if room < 40 {
-        return Judgement::Refused(Refusal::ShortBuffer);
-    }
-    Judgement::Fine
-}
-
 // One set charted, its line written from position at on: judged first, written last.
 pub fn chart_at(chart: Chart, week: u32, numbers: &[i32], out: &mut [u8], at: usize) -> ChartResult
     requires { ⌜ at ≤ length (now out) ⌝ }
@@ -95,7 +60,7 @@ pub fn chart_at(chart: Chart, week: u32, numbers: &[i32], out: &mut [u8], at: us
     ensures { λ r. ⌜ Put (now (out .entry)) at (bytesOf (r .answer)) (now (out .exit)) (at + length (bytesOf (r .answer))) ⌝ }
 {
     let room = out.len() - at;
-    match judge_call(chart, week, numbers, room) {
+    match chart_refusals::judge_call(chart, week, numbers, room) {
         Judgement::Refused(refusal) => ChartResult {
             chart,
             answer: ChartAnswer::Refused(refusal),

@@ -9,18 +9,20 @@ use lib.ListN.{length}
 use lib.Dec.{ltb}
 use borrow.Author.Tests.{lt-ltb, le-ltb}
 use Rattle.decimal.specs.Put.{overwritten}
-use Rattle.chart_judge.specs.Judging.{firstRefusal, valueLines, textChecks, starts, verdict, judged}
+use Rattle.chart_ruling.specs.Rulings.{firstRefusal}
+use Rattle.chart_judge.specs.Judging.{valueLines, textChecks, starts, verdict, judged}
 use Rattle.chart_file.specs.Texts.{textSets, outputOf, roomCheck, checksOf, answered, answerOf, bytesOf, TextCharted, chartTextOf}
 use Rattle.chart_file.specs.Answers.{textSays}
 use Rattle.chart_file.specs.Laws.{TextUntouched}
-use Rattle.chart_judge.specs.declared.TextRefusal.{TextRefusal}
-use Rattle.chart_judge.specs.declared.TextRefusal.the-variants.{ShortBuffer}
-use Rattle.chart_judge.specs.declared.Ruling.{Ruling}
-use Rattle.chart_judge.specs.declared.Ruling.the-variants as R
+use Rattle.chart_ruling.specs.declared.TextRefusal.{TextRefusal}
+use Rattle.chart_ruling.specs.declared.TextRefusal.the-variants.{ShortBuffer}
+use Rattle.chart_ruling.specs.declared.Ruling.{Ruling}
+use Rattle.chart_ruling.specs.declared.Ruling.the-variants as R
 use Rattle.chart_judge.specs.declared.Verdict.the-variants as Ver
 use Rattle.chart_file.specs.declared.TextAnswer.{TextAnswer}
 use Rattle.chart_file.specs.declared.TextAnswer.the-variants.{Written, Refused}
-use Rattle.chart_judge.proofs.Judging.{otherwise, first-append, fine-both, good-fine, good-starts, fine-text}
+use Rattle.chart_ruling.proofs.Rulings.{otherwise, first-append, fine-both}
+use Rattle.chart_judge.proofs.Judging.{good-fine, good-starts, fine-text}
 use Rattle.chart_file.proofs.Gathering.{text-count}
 
 -- ---- the answer, from the verdict

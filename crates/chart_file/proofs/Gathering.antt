@@ -16,7 +16,8 @@ use Rattle.chart_lines.specs.declared.ValueLine.{ValueLine}
 use Rattle.chart_lines.specs.declared.LineRead.{LineRead}
 use Rattle.chart_lines.specs.declared.LineRead.the-variants.{Values, Bad}
 use Rattle.chart_state.specs.Charts.{freshChart}
-use Rattle.chart_judge.specs.Judging.{linesAt, valueLines, starts, FineLine, GoodLines}
+use Rattle.chart_ruling.specs.Rulings.{FineLine}
+use Rattle.chart_judge.specs.Judging.{linesAt, valueLines, starts, GoodLines}
 use Rattle.chart_gather.specs.Gathering.{Gathered, none, joined, finished, closed, kept, setsOf, seen}
 use Rattle.chart_gather.specs.Charting.{chartAll, chartAfter, Stepped}
 use Rattle.chart_file.specs.Texts.{textSets, textLines}
@@ -24,7 +25,7 @@ use Rattle.chart_gather.specs.declared.Progress.{Progress}
 use Rattle.chart_gather.proofs.Gathering.{finished-some}
 use Rattle.chart_gather.proofs.Charting.{chart-append, chart-short}
 use Rattle.chart_judge.proofs.Lines.{lines-end, lines-bad, lines-more}
-use Rattle.chart_judge.proofs.Judging.{fine-first}
+use Rattle.chart_ruling.proofs.Rulings.{fine-first}
 
 -- ---- the number of a good text's sets
 joined-some : (s : Gathered) (v : ValueLine) → 0 < length (joined s v .numbers)

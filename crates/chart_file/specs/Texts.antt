@@ -5,12 +5,13 @@ use lib.ListN.{length}
 use lib.Dec.{ltb}
 use Rattle.decimal.specs.Put.{overwritten}
 use Rattle.chart_state.specs.Charts.{freshChart}
-use Rattle.chart_judge.specs.Judging.{Check, firstRefusal, textChecks, valueLines}
+use Rattle.chart_ruling.specs.Rulings.{Check, firstRefusal}
+use Rattle.chart_judge.specs.Judging.{textChecks, valueLines}
 use Rattle.chart_gather.specs.Gathering.{Gathered, none, setsOf}
 use Rattle.chart_gather.specs.Charting.{chartAll}
-use Rattle.chart_judge.specs.declared.TextRefusal.the-variants.{ShortBuffer}
-use Rattle.chart_judge.specs.declared.Ruling.{Ruling}
-use Rattle.chart_judge.specs.declared.Ruling.the-variants as R
+use Rattle.chart_ruling.specs.declared.TextRefusal.the-variants.{ShortBuffer}
+use Rattle.chart_ruling.specs.declared.Ruling.{Ruling}
+use Rattle.chart_ruling.specs.declared.Ruling.the-variants as R
 use Rattle.chart_file.specs.declared.TextAnswer.{TextAnswer}
 use Rattle.chart_file.specs.declared.TextAnswer.the-variants.{Written, Refused}
 

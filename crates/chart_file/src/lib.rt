@@ -1,9 +1,9 @@
 // A chart text judged and charted whole.
 use chart_gather::Progress;
 use chart_gather::TextSet;
-use chart_judge::TextRefusal;
 use chart_judge::Verdict;
 use chart_lines::LineRead;
+use chart_ruling::TextRefusal;
 ghost use mathlib.Core.Path.{_≡_};
 ghost use Prim.Native.Nat.{_+_, _*_, _≤_};
 ghost use lib.ListN.{length};

@@ -7,7 +7,7 @@ ghost use Prim.Native.Nat.{_+_, _*_, _<_, _≤_};
 ghost use lib.IntN.{pos};
 ghost use lib.ListN.{length};
 ghost use Rattle.decimal.specs.Put.{Put};
-ghost use Rattle.chart_judge.specs.Judging.{FineLine};
+ghost use Rattle.chart_ruling.specs.Rulings.{FineLine};
 ghost use Rattle.chart_gather.specs.Gathering.{seen, finished, closed, Grown};
 ghost use Rattle.chart_gather.specs.Charting.{chartAll, Flushed, Stepped};
 

@@ -2,7 +2,7 @@
 use mathlib.Core.Path.{_≡_, refl}
 use mathlib.Core.List.{map}
 use Rattle.decimal.specs.Show.{shown, show, showSigned}
-use Rattle.chart_lines.specs.Decimal.{isDigit, digits, number, numberAt}
+use Rattle.chart_numbers.specs.Decimal.{isDigit, digits, number, numberAt}
 use Rattle.chart_lines.specs.Line.{ended, field, then, lineAt}
 use Rattle.chart_lines.specs.Names.{startsWith}
 use Rattle.chart_sets.specs.Sets.{badWeek, badSize, outside, badResult, setOf}
@@ -12,8 +12,10 @@ use Rattle.chart_rules.specs.Rules.{absolute, atOrAbove, atOrBelow, tolerance, 
 use Rattle.chart_run.specs.Run.{above, below, oneSide, sixtieths, runBy, run}
 use Rattle.chart_state.specs.Charts.{sound, nextChart}
 use Rattle.chart_line.specs.Lines.{valuesOf, flagBytes, lineOf}
-use Rattle.chart.specs.Calls.{refusalOf, decided, accepted, resultOf, bytesOf as lineBytes}
-use Rattle.chart_judge.specs.Judging.{linesFrom, linesAt, isNext, isStart}
+use Rattle.chart_refusals.specs.Checks.{refusalOf}
+use Rattle.chart.specs.Calls.{decided, accepted, resultOf, bytesOf as lineBytes}
+use Rattle.chart_ruling.specs.Rulings.{isNext, isStart}
+use Rattle.chart_judge.specs.Judging.{linesFrom, linesAt}
 use Rattle.chart_gather.specs.Gathering.{finished, closed, kept, setsOf}
 use Rattle.chart_gather.specs.Charting.{chartAll}
 use Rattle.chart_print.specs.Printing.{refusalBytes, spoken, printed}

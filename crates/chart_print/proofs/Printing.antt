@@ -5,8 +5,8 @@ use Prim.Native.Nat.{ℕ, _≤_, _<_}
 use lib.ListN.{length}
 use borrow.Author.Tests.{lt-ltb, le-ltb}
 use Rattle.decimal.specs.Put.{overwritten}
-use Rattle.chart_judge.specs.Refusals.{numberOf}
-use Rattle.chart_judge.specs.declared.TextRefusal.{TextRefusal}
+use Rattle.chart_ruling.specs.Refusals.{numberOf}
+use Rattle.chart_ruling.specs.declared.TextRefusal.{TextRefusal}
 use Rattle.chart_file.specs.Texts.{outputOf, answerOf, bytesOf, TextCharted, chartTextOf}
 use Rattle.chart_file.specs.declared.TextAnswer.{TextAnswer}
 use Rattle.chart_file.specs.declared.TextAnswer.the-variants.{Written, Refused}

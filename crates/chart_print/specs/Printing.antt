@@ -5,8 +5,8 @@ use mathlib.Core.List.{List, [], _∷_, _++_}
 use lib.ListN.{length}
 use Rattle.decimal.specs.Show.{show}
 use Rattle.decimal.specs.Put.{overwritten}
-use Rattle.chart.specs.Calls.{shortBuffer}
-use Rattle.chart_judge.specs.Refusals.{numberOf}
+use Rattle.chart_refusals.specs.Checks.{shortBuffer}
+use Rattle.chart_ruling.specs.Refusals.{numberOf}
 use Rattle.chart_file.specs.Texts.{outputOf, answerOf}
 use Rattle.chart_file.specs.declared.TextAnswer.{TextAnswer}
 use Rattle.chart_file.specs.declared.TextAnswer.the-variants.{Written, Refused}

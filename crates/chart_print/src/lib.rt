@@ -1,11 +1,11 @@
 // What the chart program prints.
 use chart_file::TextAnswer;
-use chart_judge::TextRefusal;
+use chart_ruling::TextRefusal;
 ghost use mathlib.Core.Path.{_≡_};
 ghost use Prim.Native.Nat.{_≤_};
 ghost use lib.ListN.{length};
 ghost use Rattle.decimal.specs.Put.{Put};
-ghost use Rattle.chart_judge.specs.Refusals.{numberOf};
+ghost use Rattle.chart_ruling.specs.Refusals.{numberOf};
 ghost use Rattle.chart_print.specs.Printing.{refusalBytes, printedOf};
 
 // A refusal's number.

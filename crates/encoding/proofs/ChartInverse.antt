@@ -14,7 +14,8 @@ use Rattle.chart_state.specs.Charts.{freshChart, nextChart}
 use Rattle.chart.specs.Calls.{accepted, resultOf}
 use Rattle.chart_state.specs.declared.Chart.{Chart}
 use Rattle.chart.specs.declared.ChartResult.{ChartResult}
-use Rattle.chart.proofs.Soundness.{FineCall, call-cases, fine-set}
+use Rattle.chart_refusals.proofs.Fine.{FineCall}
+use Rattle.chart.proofs.Soundness.{call-cases, fine-set}
 use Rattle.encoding.specs.Places.{word, isNatural, natural, place}
 use Rattle.encoding.specs.ChartWords.{chartSetWords, setsWords, chartWords, chartSetAt, chartAt, isChartSet, isChart}
 use Rattle.encoding.specs.StationLaws.{Fits, Places}

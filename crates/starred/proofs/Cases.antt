@@ -18,7 +18,8 @@ use Rattle.chart_rules.specs.Rules.{absolute, atOrAbove, atOrBelow, tolerance, 
 use Rattle.chart_run.specs.Run.{above, below, oneSide, sixtieths, runBy, run}
 use Rattle.chart_state.specs.Charts.{sound as soundChart, nextChart}
 use Rattle.chart_line.specs.Lines.{valuesOf}
-use Rattle.chart.specs.Calls.{refusalOf, decided, accepted, resultOf}
+use Rattle.chart_refusals.specs.Checks.{refusalOf}
+use Rattle.chart.specs.Calls.{decided, accepted, resultOf}
 use Rattle.rules.specs.Cases.{Case}
 use Rattle.starred.specs.Cases.{starred}
 

@@ -6,7 +6,7 @@ use Rattle.decimal.proofs.Put.{put-is}
 use Rattle.chart_gather.specs.Gathering.{Gathered, seen, joined}
 use Rattle.chart_gather.specs.Charting.{chartAll, chartAfter}
 use Rattle.chart_gather.proofs.Gathering.{closed-start, closed-next, kept-start, kept-next}
-use Rattle.chart_judge.proofs.Judging.{fine-results, fine-next}
+use Rattle.chart_ruling.proofs.Rulings.{fine-results, fine-next}
 use borrow.Author.Needs.{needs}
 use Rattle.chart_gather.proofs.take_line.Statement.{statement}
 use Rattle.chart_gather.proofs.take_line.Tie as tie

@@ -1,7 +1,7 @@
 use mathlib.Core.Path.{sym, ap}
 use lib.IntN.{pos}
-use Rattle.chart.specs.Refusals.{numberOf}
-use Rattle.chart.specs.declared.Refusal.{Refusal}
+use Rattle.chart_refusals.specs.Refusals.{numberOf}
+use Rattle.chart_refusals.specs.declared.Refusal.{Refusal}
 use borrow.Author.Needs.{needs}
 use Rattle.abi.proofs.charts.number.Statement.{statement}
 use Rattle.abi.proofs.charts.number.Tie as tie

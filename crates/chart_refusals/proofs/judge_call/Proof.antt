@@ -1,10 +1,10 @@
--- `chart::judge_call` meets its contract.
+-- `chart_refusals::judge_call` meets its contract.
 use mathlib.Core.Path.{sym, _∙_}
 use borrow.Author.Tests.{not-true, not-false, lt-ltb, le-ltb}
-use Rattle.chart.specs.Calls.{refusalOf}
+use Rattle.chart_refusals.specs.Checks.{refusalOf}
 use borrow.Author.Needs.{needs}
-use Rattle.chart.proofs.judge_call.Statement.{statement}
-use Rattle.chart.proofs.judge_call.Tie as tie
+use Rattle.chart_refusals.proofs.judge_call.Statement.{statement}
+use Rattle.chart_refusals.proofs.judge_call.Tie as tie
 
 sound-requires : tie.Need-sound-requires
 sound-requires c κs = search needs

@@ -1,13 +1,13 @@
--- `chart_judge::rule` meets its contract.
+-- `chart_ruling::rule` meets its contract.
 use mathlib.Core.Path.{_≡_, sym, _∙_}
 use mathlib.Core.Bool.{_&&_, _||_}
 use borrow.Author.Tests.{not-true, not-false}
 use Rattle.chart_sets.specs.Sets.{badWeek}
 use Rattle.chart_sets.proofs.Flags.{and2, or2}
-use Rattle.chart_judge.specs.Judging.{isNext, isStart, ruling}
+use Rattle.chart_ruling.specs.Rulings.{isNext, isStart, ruling}
 use borrow.Author.Needs.{needs}
-use Rattle.chart_judge.proofs.rule.Statement.{statement}
-use Rattle.chart_judge.proofs.rule.Tie as tie
+use Rattle.chart_ruling.proofs.rule.Statement.{statement}
+use Rattle.chart_ruling.proofs.rule.Tie as tie
 
 -- the two tests that are joined, as the paper has them
 place : (c : tie.After-either) → c .either .result ≡ isNext (c .before .before .before .args .week) (c .before .before .before .args .sample) (c .before .before .before .args .v) || isStart (c .before .before .before .args .week) (c .before .before .before .args .sample) (c .before .before .before .args .v)

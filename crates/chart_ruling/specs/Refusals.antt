@@ -1,7 +1,7 @@
 -- Paper 01, "Refused calls": the numbers of a chart text's refusals.
 use Prim.Native.Nat.{ℕ}
-use Rattle.chart_judge.specs.declared.TextRefusal.{TextRefusal}
-use Rattle.chart_judge.specs.declared.TextRefusal.the-variants.{TooLong, BadNames, BadLine, BadSample, BadWeek, BadResult, ShortBuffer}
+use Rattle.chart_ruling.specs.declared.TextRefusal.{TextRefusal}
+use Rattle.chart_ruling.specs.declared.TextRefusal.the-variants.{TooLong, BadNames, BadLine, BadSample, BadWeek, BadResult, ShortBuffer}
 
 -- the refusal's number
 abbrev pub numberOf : TextRefusal → ℕ

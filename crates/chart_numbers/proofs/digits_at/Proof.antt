@@ -1,4 +1,4 @@
--- `chart_lines::digits_at` meets its contract.
+-- `chart_numbers::digits_at` meets its contract.
 use mathlib.Core.Path.{_≡_, refl, sym, _∙_}
 use Prim.Native.Nat.{ℕ, _-_, _≤_, _<_}
 use native.Mathlib.Omega.{arith}
@@ -8,10 +8,10 @@ use mathlib.Core.List.{List}
 use mathlib.Core.Bool.{true}
 use denote.Ref.{now}
 use lib.ListN.{length, getD, drop}
-use Rattle.chart_lines.specs.Decimal.{isDigit, digits}
-use Rattle.chart_lines.proofs.Laws.{digit-range, digits-end, digits-stop, digits-long, digits-more}
-use Rattle.chart_lines.proofs.digits_at.Statement.{statement}
-use Rattle.chart_lines.proofs.digits_at.Tie as tie
+use Rattle.chart_numbers.specs.Decimal.{isDigit, digits}
+use Rattle.chart_numbers.proofs.Laws.{digit-range, digits-end, digits-stop, digits-long, digits-more}
+use Rattle.chart_numbers.proofs.digits_at.Statement.{statement}
+use Rattle.chart_numbers.proofs.digits_at.Tie as tie
 
 abbrev Inv-loop : tie.InvT-loop
 Inv-loop text at first n₀ i₀ n i = (n < 100000) × (digits n i (drop i text) ≡ digits first at (drop at text))

@@ -2,10 +2,10 @@
 use Prim.Native.Nat.{ℕ}
 use mathlib.Core.Bool.{Bool, cond}
 use mathlib.Core.List.{List, [], _∷_}
-use Rattle.chart.specs.declared.Refusal.{Refusal}
-use Rattle.chart.specs.declared.Refusal.the-variants.{UnsoundChart, UnknownRow, BadWeek, BadSize, BadResult, ShortBuffer}
-use Rattle.chart.specs.declared.Judgement.{Judgement}
-use Rattle.chart.specs.declared.Judgement.the-variants.{Fine, Refused}
+use Rattle.chart_refusals.specs.declared.Refusal.{Refusal}
+use Rattle.chart_refusals.specs.declared.Refusal.the-variants.{UnsoundChart, UnknownRow, BadWeek, BadSize, BadResult, ShortBuffer}
+use Rattle.chart_refusals.specs.declared.Judgement.{Judgement}
+use Rattle.chart_refusals.specs.declared.Judgement.the-variants.{Fine, Refused}
 
 -- the refusal's number
 abbrev pub numberOf : Refusal → ℕ

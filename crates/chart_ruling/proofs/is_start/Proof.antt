@@ -1,10 +1,10 @@
--- `chart_judge::is_start` meets its contract.
+-- `chart_ruling::is_start` meets its contract.
 use mathlib.Core.Path.{_∙_, refl}
 use Rattle.chart_sets.proofs.Flags.{and2}
-use Rattle.chart_judge.specs.Judging.{isStart}
+use Rattle.chart_ruling.specs.Rulings.{isStart}
 use borrow.Author.Needs.{needs}
-use Rattle.chart_judge.proofs.is_start.Statement.{statement}
-use Rattle.chart_judge.proofs.is_start.Tie as tie
+use Rattle.chart_ruling.proofs.is_start.Statement.{statement}
+use Rattle.chart_ruling.proofs.is_start.Tie as tie
 
 either-requires : tie.Need-either-requires
 either-requires c κs = search needs

@@ -1,10 +1,10 @@
--- `chart_judge::is_next` meets its contract.
+-- `chart_ruling::is_next` meets its contract.
 use mathlib.Core.Path.{_∙_}
 use Rattle.chart_sets.proofs.Flags.{and2}
-use Rattle.chart_judge.specs.Judging.{isNext}
+use Rattle.chart_ruling.specs.Rulings.{isNext}
 use borrow.Author.Needs.{needs}
-use Rattle.chart_judge.proofs.is_next.Statement.{statement}
-use Rattle.chart_judge.proofs.is_next.Tie as tie
+use Rattle.chart_ruling.proofs.is_next.Statement.{statement}
+use Rattle.chart_ruling.proofs.is_next.Tie as tie
 
 both-requires : tie.Need-both-requires
 both-requires c κs = search needs

@@ -8,9 +8,9 @@ use native.Mathlib.Nat.{eq-zero-or-pos}
 use native.Mathlib.Omega.{arith}
 use lib.ListN.{length}
 use borrow.Author.Tests.{lt-ltb, le-leb, ne-eqb}
-use Rattle.chart_lines.specs.Decimal.{isDigit, digits, number}
+use Rattle.chart_numbers.specs.Decimal.{isDigit, digits, number}
 use Rattle.decimal.specs.Show.{show}
-use Rattle.chart_lines.specs.declared.Number.the-variants.{Value}
+use Rattle.chart_numbers.specs.declared.Number.the-variants.{Value}
 use Rattle.decimal.proofs.Show.{lt-or-ge, show-small, show-step, length-step}
 
 is-digit : (d : ℕ) → d < 10 → isDigit (48 + d) ≡ true

@@ -1,14 +1,14 @@
--- `chart_lines::number_at` meets its contract: each way out is one law of `numberAt`.
+-- `chart_numbers::number_at` meets its contract: each way out is one law of `numberAt`.
 use borrow.Author.Needs.{needs}
 use mathlib.Core.Path.{_≡_, sym, _∙_}
 use mathlib.Core.Bool.{true}
 use native.Mathlib.Omega.{arith}
 use lib.ListN.{getD}
 use denote.Ref.{now}
-use Rattle.chart_lines.specs.Decimal.{isDigit}
-use Rattle.chart_lines.proofs.Laws.{digit-range, number-end, number-zero, number-digits, number-other}
-use Rattle.chart_lines.proofs.number_at.Statement.{statement}
-use Rattle.chart_lines.proofs.number_at.Tie as tie
+use Rattle.chart_numbers.specs.Decimal.{isDigit}
+use Rattle.chart_numbers.proofs.Laws.{digit-range, number-end, number-zero, number-digits, number-other}
+use Rattle.chart_numbers.proofs.number_at.Statement.{statement}
+use Rattle.chart_numbers.proofs.number_at.Tie as tie
 
 returns : tie.Need-returns
 returns c = sym (number-end _ _ (c .if1 .taken))

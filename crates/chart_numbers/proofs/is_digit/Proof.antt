@@ -1,8 +1,8 @@
--- `chart_lines::is_digit` meets its contract.
+-- `chart_numbers::is_digit` meets its contract.
 use borrow.Author.Tests.{le-leb, lt-leb}
-use Rattle.chart_lines.specs.Decimal.{isDigit}
-use Rattle.chart_lines.proofs.is_digit.Statement.{statement}
-use Rattle.chart_lines.proofs.is_digit.Tie as tie
+use Rattle.chart_numbers.specs.Decimal.{isDigit}
+use Rattle.chart_numbers.proofs.is_digit.Statement.{statement}
+use Rattle.chart_numbers.proofs.is_digit.Tie as tie
 
 returns : tie.Need-returns
 unfolding isDigit

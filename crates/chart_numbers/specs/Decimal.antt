@@ -4,8 +4,8 @@ use mathlib.Core.Bool.{Bool, false, cond}
 use mathlib.Core.List.{List, [], _∷_}
 use lib.ListN.{drop}
 use lib.Dec.{leb, ltb, eqb}
-use Rattle.chart_lines.specs.declared.Number.{Number}
-use Rattle.chart_lines.specs.declared.Number.the-variants.{Value, Bad}
+use Rattle.chart_numbers.specs.declared.Number.{Number}
+use Rattle.chart_numbers.specs.declared.Number.the-variants.{Value, Bad}
 
 -- an ASCII digit
 unfoldable pub isDigit : ℕ → Bool

@@ -1,9 +1,9 @@
--- `chart_judge::bad_pair` meets its contract.
+-- `chart_ruling::bad_pair` meets its contract.
 use mathlib.Core.Path.{_∙_}
-use Rattle.chart_judge.proofs.Judging.{bad-pair}
+use Rattle.chart_ruling.proofs.Rulings.{bad-pair}
 use borrow.Author.Needs.{needs}
-use Rattle.chart_judge.proofs.bad_pair.Statement.{statement}
-use Rattle.chart_judge.proofs.bad_pair.Tie as tie
+use Rattle.chart_ruling.proofs.bad_pair.Statement.{statement}
+use Rattle.chart_ruling.proofs.bad_pair.Tie as tie
 
 either-requires : tie.Need-either-requires
 either-requires c κs = search needs
