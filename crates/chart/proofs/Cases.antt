@@ -2,7 +2,8 @@
 use mathlib.Core.Path.{_≡_, refl}
 use mathlib.Core.List.{map}
 use Rattle.decimal.specs.Show.{shown, show, showSigned}
-use Rattle.chart_sets.specs.Sets.{badWeek, badSize, outside, badResult, setOf}
+use Rattle.chart_bounds.specs.Bounds.{badWeek, badSize, outside, badResult}
+use Rattle.chart_sets.specs.Sets.{setOf}
 use Rattle.chart_sets.specs.Soundness.{soundSet}
 use Rattle.chart_rules.specs.Rows.{limitsOf}
 use Rattle.chart_rules.specs.Rules.{absolute, atOrAbove, atOrBelow, tolerance, rangeTolerance}

@@ -21,7 +21,7 @@ use Rattle.chart.specs.declared.ChartAnswer.the-variants.{Charted}
 use Rattle.chart_line.proofs.Lines.{values-small, line-short}
 use Rattle.chart_refusals.proofs.Fine.{FineCall}
 use Rattle.chart.proofs.Soundness.{call-cases, fine-set}
-use Rattle.chart_sets.proofs.Sums.{week-facts}
+use Rattle.chart_bounds.proofs.Bounds.{week-facts}
 
 -- a buffer of 40 bytes is as good as any longer one
 pub enough-room : (c : Chart) (week : ℕ) (numbers : List ℤ) (room : ℕ) → 40 ≤ room → resultOf c week numbers room ≡ resultOf c week numbers 40

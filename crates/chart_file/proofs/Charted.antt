@@ -14,7 +14,7 @@ use Rattle.whole.proofs.ListLaws.{by-test}
 use Rattle.chart_lines.specs.declared.ValueLine.{ValueLine}
 use Rattle.chart_lines.specs.declared.LineRead.{LineRead}
 use Rattle.chart_lines.specs.declared.LineRead.the-variants.{Values, Bad}
-use Rattle.chart_sets.specs.Sets.{badWeek, badSize, outside, badResult}
+use Rattle.chart_bounds.specs.Bounds.{badWeek, badSize, outside, badResult}
 use Rattle.chart.specs.Openings.{opening, openOf}
 use Rattle.chart_state.specs.Charts.{sound, freshChart, nextChart}
 use Rattle.chart_refusals.specs.Checks.{refusalOf}

@@ -5,7 +5,8 @@ use Rattle.decimal.specs.Show.{shown, show, showSigned}
 use Rattle.chart_numbers.specs.Decimal.{isDigit, digits, number, numberAt}
 use Rattle.chart_lines.specs.Line.{ended, field, then, lineAt}
 use Rattle.chart_lines.specs.Names.{startsWith}
-use Rattle.chart_sets.specs.Sets.{badWeek, badSize, outside, badResult, setOf}
+use Rattle.chart_bounds.specs.Bounds.{badWeek, badSize, outside, badResult}
+use Rattle.chart_sets.specs.Sets.{setOf}
 use Rattle.chart_sets.specs.Soundness.{soundSet}
 use Rattle.chart_rules.specs.Rows.{limitsOf}
 use Rattle.chart_rules.specs.Rules.{absolute, atOrAbove, atOrBelow, tolerance, rangeTolerance}

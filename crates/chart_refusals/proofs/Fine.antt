@@ -7,7 +7,7 @@ use native.Mathlib.Omega.{arith}
 use lib.IntN.{ℤ}
 use lib.ListN.{length}
 use borrow.Author.Tests.{ltb-false, not-false}
-use Rattle.chart_sets.specs.Sets.{badWeek, badSize, badResult}
+use Rattle.chart_bounds.specs.Bounds.{badWeek, badSize, badResult}
 use Rattle.chart_state.specs.Charts.{sound}
 use Rattle.chart_state.specs.declared.Chart.{Chart}
 use Rattle.chart_refusals.specs.Checks.{refusalOf}

@@ -5,7 +5,7 @@ use mathlib.Core.List.{List, [], _∷_}
 use lib.IntN.{ℤ}
 use lib.ListN.{length}
 use lib.Dec.{ltb}
-use Rattle.chart_sets.specs.Sets.{badWeek, badSize, badResult}
+use Rattle.chart_bounds.specs.Bounds.{badWeek, badSize, badResult}
 use Rattle.chart_state.specs.Charts.{sound}
 use Rattle.chart_state.specs.declared.Chart.{Chart}
 use Rattle.chart_refusals.specs.Refusals.{Check, firstRefusal}

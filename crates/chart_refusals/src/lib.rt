@@ -25,13 +25,13 @@ pub fn judge_call(chart: Chart, week: u32, numbers: &[i32], room: usize) -> Judg
     if !chart_state::sound(chart) {
         return Judgement::Refused(Refusal::UnsoundChart);
     }
-    if chart_sets::bad_week(chart.week, week) {
+    if chart_bounds::bad_week(chart.week, week) {
         return Judgement::Refused(Refusal::BadWeek);
     }
-    if chart_sets::bad_size(numbers.len()) {
+    if chart_bounds::bad_size(numbers.len()) {
         return Judgement::Refused(Refusal::BadSize);
     }
-    if chart_sets::bad_result(numbers) {
+    if chart_bounds::bad_result(numbers) {
         return Judgement::Refused(Refusal::BadResult);
     }
     if room < 40 {

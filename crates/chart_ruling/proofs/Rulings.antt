@@ -10,8 +10,8 @@ use borrow.Author.Tests.{le-ltb, leb-true, eqb-true, eqb-false, not-true, not-fa
 use Rattle.whole.proofs.Tests.{and-both, or-false}
 use Rattle.whole.proofs.ListLaws.{by-test}
 use Rattle.chart_lines.specs.declared.ValueLine.{ValueLine}
-use Rattle.chart_sets.specs.Sets.{outside, badResult}
-use Rattle.chart_sets.proofs.Sums.{each-inside, week-facts}
+use Rattle.chart_bounds.specs.Bounds.{outside, badResult}
+use Rattle.chart_bounds.proofs.Bounds.{each-inside, week-facts}
 use Rattle.chart_ruling.specs.Rulings.{Check, firstRefusal, isNext, isStart, ruling, FineLine}
 use Rattle.chart_ruling.specs.declared.TextRefusal.{TextRefusal}
 use Rattle.chart_ruling.specs.declared.Ruling.{Ruling}

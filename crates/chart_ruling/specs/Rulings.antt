@@ -6,7 +6,7 @@ use mathlib.Core.List.{List, [], _∷_}
 use lib.IntN.{pos}
 use lib.Dec.{leb, eqb}
 use Rattle.chart_lines.specs.declared.ValueLine.{ValueLine}
-use Rattle.chart_sets.specs.Sets.{badResult, badWeek}
+use Rattle.chart_bounds.specs.Bounds.{badResult, badWeek}
 use Rattle.chart_ruling.specs.declared.TextRefusal.{TextRefusal}
 use Rattle.chart_ruling.specs.declared.TextRefusal.the-variants.{BadSample, BadWeek, BadResult}
 use Rattle.chart_ruling.specs.declared.Ruling.{Ruling}

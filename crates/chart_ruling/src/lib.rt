@@ -5,7 +5,7 @@ ghost use mathlib.Core.Path.{_≡_};
 ghost use mathlib.Core.List.{[], _∷_};
 ghost use Prim.Native.Nat.{_≤_};
 ghost use lib.IntN.{pos};
-ghost use Rattle.chart_sets.specs.Sets.{badResult};
+ghost use Rattle.chart_bounds.specs.Bounds.{badResult};
 ghost use Rattle.chart_ruling.specs.Rulings.{isNext, isStart, ruling};
 
 // Numbers 15 to 19, 21 and 22.
@@ -58,7 +58,7 @@ pub fn rule(week: u32, sample: u32, line: u32, v: ValueLine) -> Ruling
     if !flags::either(is_next(week, sample, v), start) {
         return Ruling::Refused(TextRefusal::BadSample, line);
     }
-    if flags::both(start, chart_sets::bad_week(week, v.week)) {
+    if flags::both(start, chart_bounds::bad_week(week, v.week)) {
         return Ruling::Refused(TextRefusal::BadWeek, line);
     }
     if bad_pair(v) {

@@ -6,8 +6,20 @@ use Prim.Native.Nat.{ℕ, zero, suc, _≤_, _<_}
 use native.Mathlib.Omega.{arith}
 use lib.ListN.{length, take, getD}
 use Rattle.whole.proofs.Tests.{or-false}
+use Rattle.chart_sets.specs.Soundness.{SetFits, AllFit}
+use Rattle.chart_sets.proofs.Soundness.{fit-at}
 use Rattle.chart_sets.specs.declared.ChartSet.{ChartSet}
 use Rattle.chart_run.specs.Run.{runBy, run}
+
+-- the sets that a run is made of fit
+pub three-fit : (d : ChartSet) (n : ℕ) (l : List ChartSet) → 3 ≤ n → length l ≡ 4 → AllFit (take n l) → SetFits (getD l 0 d) × SetFits (getD l 1 d) × SetFits (getD l 2 d)
+three-fit d n l h e f = (fit-at d n 0 l (omega arith) (omega arith) f, fit-at d n 1 l (omega arith) (omega arith) f, fit-at d n 2 l (omega arith) (omega arith) f)
+
+pub fourth-fits : (d : ChartSet) (n : ℕ) (l : List ChartSet) → 3 ≤ n → (n ≡ 3 → ⊥) → length l ≡ 4 → AllFit (take n l) → SetFits (getD l 3 d)
+fourth-fits d n l h ne e f = fit-at d n 3 l (omega arith) (omega arith) f
+
+pub all-four : (n : ℕ) → 3 ≤ n → (n ≡ 3 → ⊥) → 4 ≤ n
+all-four n h ne = omega arith
 
 module _ (limit : ℕ) (s d : ChartSet) where
   pub run-short : (n : ℕ) (l : List ChartSet) → n < 3 → length l ≡ 4 → false ≡ run limit s (take n l)

@@ -12,10 +12,12 @@ use Rattle.whole.specs.Lists.{all, total, largest, smallest}
 use Rattle.whole.proofs.PartLaws.{either, sizeParts}
 use Rattle.whole.proofs.ListLaws.{total-within, spread-within}
 use Rattle.whole.proofs.Tests.{and-both}
-use Rattle.chart_sets.specs.Sets.{badSize, badResult, differences, setOf}
+use Rattle.chart_bounds.specs.Bounds.{badSize, badResult}
+use Rattle.chart_sets.specs.Sets.{differences, setOf}
 use Rattle.chart_sets.specs.Soundness.{soundSet, SetFits, AllFit}
 use Rattle.chart_sets.specs.declared.ChartSet.{ChartSet}
-use Rattle.chart_sets.proofs.Sums.{size-facts, each-inside, each-diff, diff-length}
+use Rattle.chart_bounds.proofs.Bounds.{size-facts, each-inside}
+use Rattle.chart_sets.proofs.Sums.{each-diff, diff-length}
 
 pub set-fits : (s : ChartSet) → soundSet s ≡ true → SetFits s
 unfolding soundSet

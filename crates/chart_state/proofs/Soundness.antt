@@ -10,10 +10,10 @@ use borrow.Author.Tests.{le-leb, leb-true}
 use Rattle.whole.specs.Lists.{all}
 use Rattle.whole.proofs.Tests.{and-both, to-true, of-true}
 use Rattle.whole.proofs.Elements.{take-min, all-take}
-use Rattle.chart_sets.specs.Sets.{badWeek}
+use Rattle.chart_bounds.specs.Bounds.{badWeek}
 use Rattle.chart_sets.specs.Soundness.{soundSet}
 use Rattle.chart_sets.specs.declared.ChartSet.{ChartSet}
-use Rattle.chart_sets.proofs.Sums.{week-facts}
+use Rattle.chart_bounds.proofs.Bounds.{week-facts}
 use Rattle.chart_rules.specs.Rows.{rowExists}
 use Rattle.chart_state.specs.Charts.{sound, pastOf, freshChart, nextChart}
 use Rattle.chart_state.specs.Laws.{NewestFour}

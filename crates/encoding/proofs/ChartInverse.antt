@@ -9,7 +9,7 @@ use lib.ListN.{length, take, getD, length-take}
 use Rattle.whole.proofs.Tests.{and-both}
 use Rattle.chart_sets.specs.Sets.{blankSet, setOf}
 use Rattle.chart_sets.specs.declared.ChartSet.{ChartSet}
-use Rattle.chart_sets.proofs.Sums.{week-facts}
+use Rattle.chart_bounds.proofs.Bounds.{week-facts}
 use Rattle.chart_state.specs.Charts.{freshChart, nextChart}
 use Rattle.chart.specs.Calls.{accepted, resultOf}
 use Rattle.chart_state.specs.declared.Chart.{Chart}

@@ -11,7 +11,8 @@ use Rattle.rules.specs.Markets.{correctedValue, tooHigh, tenths, tenthsAt, mark
 use Rattle.rules.specs.Judging.{sheetNumbers, marketNumbers, sheetSet, sheetVerdict}
 use Rattle.rules.specs.Soundness.{soundLine, sound}
 use Rattle.rules.specs.Stations.{sheetStation, outcomeOf, sheetOf, marketOf}
-use Rattle.chart_sets.specs.Sets.{badWeek, badSize, outside, badResult, setOf as chartSetOf}
+use Rattle.chart_bounds.specs.Bounds.{badWeek, badSize, outside, badResult}
+use Rattle.chart_sets.specs.Sets.{setOf as chartSetOf}
 use Rattle.chart_sets.specs.Soundness.{soundSet}
 use Rattle.chart_rules.specs.Rows as chartRows
 use Rattle.chart_rules.specs.Rules.{absolute, atOrAbove, atOrBelow, tolerance, rangeTolerance}

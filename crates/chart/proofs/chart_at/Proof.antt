@@ -15,7 +15,7 @@ use Rattle.chart.specs.declared.ChartAnswer.the-variants.{Charted}
 use Rattle.chart_state.proofs.Soundness.{sound-chart}
 use Rattle.chart_refusals.proofs.Fine.{FineCall, fine-call}
 use Rattle.chart.proofs.Soundness.{fine-set}
-use Rattle.chart_sets.proofs.Sums.{week-facts}
+use Rattle.chart_bounds.proofs.Bounds.{week-facts}
 use Rattle.chart_line.proofs.Lines.{values-small}
 use borrow.Author.Needs.{needs}
 use Rattle.chart.proofs.chart_at.Statement.{statement}

@@ -2,7 +2,7 @@
 use mathlib.Core.Path.{_≡_, sym, _∙_}
 use mathlib.Core.Bool.{_&&_, _||_}
 use borrow.Author.Tests.{not-true, not-false}
-use Rattle.chart_sets.specs.Sets.{badWeek}
+use Rattle.chart_bounds.specs.Bounds.{badWeek}
 use Rattle.chart_sets.proofs.Flags.{and2, or2}
 use Rattle.chart_ruling.specs.Rulings.{isNext, isStart, ruling}
 use borrow.Author.Needs.{needs}

@@ -4,7 +4,8 @@ use Rattle.whole.proofs.ListLaws.{each-at}
 use lib.IntN.{ℤ, +ℤ-idl, pos, _-ℤ_}
 use mir.Syntax.{w64}
 use mir.Val.{Fits}
-use Rattle.chart_sets.proofs.Sums.{each-diff, size-facts, each-inside, diff-at, diff-length, step-sum, tally-sum, tally-largest, tally-smallest}
+use Rattle.chart_bounds.proofs.Bounds.{size-facts, each-inside}
+use Rattle.chart_sets.proofs.Sums.{each-diff, diff-at, diff-length, step-sum, tally-sum, tally-largest, tally-smallest}
 use mathlib.Core.Path.{_≡_, refl, sym, ap, subst, _∙_}
 use native.Mathlib.Omega.{arith}
 use Prim.Native.Nat.{ℕ, _+_, _-_, _*_, _/_, _%_, _≤_, _<_}

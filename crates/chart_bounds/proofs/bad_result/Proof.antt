@@ -1,4 +1,4 @@
--- `chart_sets::bad_result` meets its contract.
+-- `chart_bounds::bad_result` meets its contract.
 use borrow.Author.Needs.{needs}
 use mathlib.Core.Path.{_∙_}
 use mathlib.Core.Bool.{false}
@@ -11,9 +11,9 @@ use mir.Val.{SFits}
 use Rattle.whole.proofs.Read.{back}
 use Rattle.whole.proofs.Fold.{Going, going-start, going-next, going-done}
 use Rattle.whole.proofs.ListLaws.{orElse, or-step, any-fold}
-use Rattle.chart_sets.specs.Sets.{outside, badResult}
-use Rattle.chart_sets.proofs.bad_result.Statement.{statement}
-use Rattle.chart_sets.proofs.bad_result.Tie as tie
+use Rattle.chart_bounds.specs.Bounds.{outside, badResult}
+use Rattle.chart_bounds.proofs.bad_result.Statement.{statement}
+use Rattle.chart_bounds.proofs.bad_result.Tie as tie
 
 abbrev Inv-loop : tie.InvT-loop
 Inv-loop numbers bad₀ i₀ bad i = (i ≤ length numbers) × Going (orElse outside) false numbers i bad

@@ -1,8 +1,8 @@
--- `chart_sets::bad_week` meets its contract.
-use Rattle.chart_sets.specs.Sets.{badWeek}
+-- `chart_bounds::bad_week` meets its contract.
+use Rattle.chart_bounds.specs.Bounds.{badWeek}
 use borrow.Author.Needs.{needs}
-use Rattle.chart_sets.proofs.bad_week.Statement.{statement}
-use Rattle.chart_sets.proofs.bad_week.Tie as tie
+use Rattle.chart_bounds.proofs.bad_week.Statement.{statement}
+use Rattle.chart_bounds.proofs.bad_week.Tie as tie
 
 either-requires : tie.Need-either-requires
 either-requires c κs = search needs

@@ -1,10 +1,10 @@
--- `chart_sets::outside` meets its contract.
+-- `chart_bounds::outside` meets its contract.
 use mathlib.Core.Path.{_∙_}
-use Rattle.chart_sets.proofs.Flags.{or2}
-use Rattle.chart_sets.specs.Sets.{outside}
+use mathlib.Core.Bool.{_||_}
+use Rattle.chart_bounds.specs.Bounds.{outside}
 use borrow.Author.Needs.{needs}
-use Rattle.chart_sets.proofs.outside.Statement.{statement}
-use Rattle.chart_sets.proofs.outside.Tie as tie
+use Rattle.chart_bounds.proofs.outside.Statement.{statement}
+use Rattle.chart_bounds.proofs.outside.Tie as tie
 
 less-requires : tie.Need-less-requires
 less-requires c κs = search needs
@@ -17,7 +17,10 @@ either-requires c κs = search needs
 
 returns : tie.Need-returns
 unfolding outside
-returns c = c .either .ensures ∙ or2 (c .before .before .less .ensures) (c .before .less2 .ensures)
+returns c =
+    let low = c .before .before .less .ensures in
+    let high = c .before .less2 .ensures in
+    c .either .ensures ∙ (λ i. low i || high i)
 
 pub outside-spec : {M : Type 1} → statement M
 outside-spec = tie.close (tie.spec less-requires less-requires-2 either-requires returns)

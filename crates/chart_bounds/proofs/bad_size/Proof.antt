@@ -1,12 +1,12 @@
--- `chart_sets::bad_size` meets its contract.
+-- `chart_bounds::bad_size` meets its contract.
 use mathlib.Core.Path.{ap, _∙_}
 use mathlib.Core.Bool.{Bool, _||_}
 use Prim.Native.Nat.{_%_}
 use lib.Dec.{eqb}
-use Rattle.chart_sets.specs.Sets.{badSize}
+use Rattle.chart_bounds.specs.Bounds.{badSize}
 use borrow.Author.Needs.{needs}
-use Rattle.chart_sets.proofs.bad_size.Statement.{statement}
-use Rattle.chart_sets.proofs.bad_size.Tie as tie
+use Rattle.chart_bounds.proofs.bad_size.Statement.{statement}
+use Rattle.chart_bounds.proofs.bad_size.Tie as tie
 
 either-requires : tie.Need-either-requires
 either-requires c κs = search needs
