@@ -2,8 +2,9 @@
 //!
 //! `cargo run --release --example bench`. Each measurement is repeated; printed are the median, the
 //! spread (largest minus smallest time, of the median) and the ratio of the times, by the medians
-//! and by the fastest runs. The model is measured twice in every run, so that the last column shows
-//! the machine's noise.
+//! and by the fastest runs. A station's calls are measured a third time, with the model behind the
+//! core's interface (its state in an array of `int32_t`): that ratio shows what the interface costs.
+//! The model is measured twice in every run, so that the last column shows the machine's noise.
 
 use std::hint::black_box;
 use std::time::Instant;
@@ -60,15 +61,20 @@ impl Times {
     }
 }
 
-/// Measures both sides on `units` (calls or bytes) and prints a line.
-fn side_by_side(name: &str, units: usize, core: Go, model: Go) {
+/// Measures both sides on `units` (calls or bytes), and the model in an array where there is one,
+/// and prints a line.
+fn side_by_side(name: &str, units: usize, core: Go, model: Go, mut kept: Option<Go>) {
     // Also the warm-up. Both sides add up their answers.
     assert_eq!(
         core().0,
         model().0,
         "{name}: the two sides answer differently"
     );
+    if let Some(kept) = &mut kept {
+        assert_eq!(core().0, kept().0, "{name}: the array answers differently");
+    }
     let (mut cores, mut models, mut again) = (Vec::new(), Vec::new(), Vec::new());
+    let mut arrays = Vec::new();
     for run in 0..RUNS {
         // The order changes, so that neither side always comes first.
         if run % 2 == 0 {
@@ -80,11 +86,18 @@ fn side_by_side(name: &str, units: usize, core: Go, model: Go) {
             again.push(model().1);
             cores.push(core().1);
         }
+        if let Some(kept) = &mut kept {
+            arrays.push(kept().1);
+        }
     }
     let (core, model, again) = (Times::of(cores), Times::of(models), Times::of(again));
     let rate = |times: &Times| units as f64 / times.median / 1e6;
+    let in_array = match kept {
+        Some(_) => format!("{:.2}", core.median / Times::of(arrays).median),
+        None => "-".to_string(),
+    };
     println!(
-        "{name:<22}{:>9.2} {:>4.0}%{:>10.2} {:>4.0}%{:>8.2}{:>9.2}{:>8.2}",
+        "{name:<22}{:>9.2} {:>4.0}%{:>10.2} {:>4.0}%{:>8.2}{:>9.2}{in_array:>10}{:>8.2}",
         rate(&core),
         100.0 * core.spread,
         rate(&model),
@@ -93,6 +106,83 @@ fn side_by_side(name: &str, units: usize, core: Go, model: Go) {
         core.fastest / model.fastest,
         again.median / model.median,
     );
+}
+
+/// The plain model behind the core's interface: its state in an array of `int32_t`, decoded for
+/// each call and encoded again where the call is accepted.
+#[derive(Clone)]
+struct Kept([i32; 47]);
+
+fn natural(word: i32) -> Option<i64> {
+    (word >= 0).then_some(i64::from(word))
+}
+
+fn decoded_line(words: &[i32]) -> Option<model::Line> {
+    let mut past = [model::station::BLANK; 4];
+    for (set, words) in past.iter_mut().zip(words[3..].chunks(3)) {
+        set.day = natural(words[0])?;
+        set.s = i64::from(words[1]);
+        set.n = natural(words[2])?;
+    }
+    let phase = match words[1] {
+        0 => model::Phase::New,
+        1 => model::Phase::Open,
+        2 => model::Phase::CheckDue,
+        _ => return None,
+    };
+    Some(model::Line {
+        intercept: i64::from(words[0]),
+        phase,
+        held: natural(words[2])?,
+        past,
+    })
+}
+
+fn encoded_line(line: &model::Line, words: &mut [i32]) {
+    words[0] = line.intercept as i32;
+    words[1] = line.phase as i32;
+    words[2] = line.held as i32;
+    for (set, words) in line.past.iter().zip(words[3..].chunks_mut(3)) {
+        words[0] = set.day as i32;
+        words[1] = set.s as i32;
+        words[2] = set.n as i32;
+    }
+}
+
+impl Kept {
+    fn of(station: &model::Station) -> Kept {
+        let mut kept = Kept([0; 47]);
+        kept.keep(station);
+        kept
+    }
+
+    fn keep(&mut self, station: &model::Station) {
+        self.0[0] = station.row as i32;
+        self.0[1] = station.day as i32;
+        for (line, words) in station.lines.iter().zip(self.0[2..].chunks_mut(15)) {
+            encoded_line(line, words);
+        }
+    }
+
+    fn station(&self) -> Option<model::Station> {
+        Some(model::Station {
+            row: natural(self.0[0])?,
+            day: natural(self.0[1])?,
+            lines: [
+                decoded_line(&self.0[2..17])?,
+                decoded_line(&self.0[17..32])?,
+                decoded_line(&self.0[32..47])?,
+            ],
+        })
+    }
+
+    #[inline(never)]
+    fn call<T>(&mut self, call: impl Fn(&mut model::Station) -> Result<T, u8>) -> Result<T, u8> {
+        let mut station = self.station().ok_or(0_u8)?;
+        let answer = call(&mut station)?;
+        self.keep(&station);
+        Ok(answer)
+    }
 }
 
 /// A sheet call: day, line, numbers.
@@ -162,7 +252,25 @@ fn bench_sheets(rules: &Rules, row: u64, name: &str) {
         }
         sum as u64
     };
-    side_by_side(name, 16 * CALLS, &mut || timed(core), &mut || timed(plain));
+    let kept = || {
+        let mut sum = 0;
+        for _ in 0..16 {
+            let mut kept = Kept::of(&model::Station::open(rules, row).0);
+            for (day, line, numbers) in black_box(&sheets) {
+                let sheet = |s: &mut model::Station| s.sheet(rules, *day, *line, numbers);
+                let outcome = kept.call(sheet).unwrap().outcome;
+                sum += outcome.s + outcome.n + outcome.change;
+            }
+        }
+        sum as u64
+    };
+    side_by_side(
+        name,
+        16 * CALLS,
+        &mut || timed(core),
+        &mut || timed(plain),
+        Some(&mut || timed(kept)),
+    );
 }
 
 /// A station of both sides whose lines are all open.
@@ -212,29 +320,52 @@ fn bench_market(rules: &Rules, row: u64, name: &str) {
         }
         sum as u64
     };
+    let asked = |floats: [f32; 3], kind: i64, moisture: i32| {
+        let bits = floats.map(f32::to_bits);
+        let scan = match row {
+            0 => model::Scan::Wheat(bits[0]),
+            _ => model::Scan::Corn(bits),
+        };
+        let basis = match kind {
+            0 => model::Basis::Standard,
+            1 => model::Basis::Dry,
+            2 => model::Basis::Specified(moisture),
+            _ => model::Basis::AsIs(moisture),
+        };
+        (scan, basis)
+    };
     let plain = || {
         let mut sum = 0;
         for _ in 0..64 {
             let mut station = plain_station;
             for &(line, floats, kind, moisture) in black_box(&requests) {
-                let bits = floats.map(f32::to_bits);
-                let scan = match row {
-                    0 => model::Scan::Wheat(bits[0]),
-                    _ => model::Scan::Corn(bits),
-                };
-                let basis = match kind {
-                    0 => model::Basis::Standard,
-                    1 => model::Basis::Dry,
-                    2 => model::Basis::Specified(moisture),
-                    _ => model::Basis::AsIs(moisture),
-                };
+                let (scan, basis) = asked(floats, kind, moisture);
                 let certificate = station.market(rules, 5, line, scan, basis).unwrap();
                 sum += certificate.corrected + certificate.at_basis;
             }
         }
         sum as u64
     };
-    side_by_side(name, 64 * CALLS, &mut || timed(core), &mut || timed(plain));
+    let kept = || {
+        let mut sum = 0;
+        for _ in 0..64 {
+            let mut kept = Kept::of(&plain_station);
+            for &(line, floats, kind, moisture) in black_box(&requests) {
+                let (scan, basis) = asked(floats, kind, moisture);
+                let market = |s: &mut model::Station| s.market(rules, 5, line, scan, basis);
+                let certificate = kept.call(market).unwrap();
+                sum += certificate.corrected + certificate.at_basis;
+            }
+        }
+        sum as u64
+    };
+    side_by_side(
+        name,
+        64 * CALLS,
+        &mut || timed(core),
+        &mut || timed(plain),
+        Some(&mut || timed(kept)),
+    );
 }
 
 fn bench_repairs(rules: &Rules) {
@@ -253,9 +384,21 @@ fn bench_repairs(rules: &Rules) {
         }
         station.day as u64
     };
-    side_by_side("repairs, corn", 79_997, &mut || timed(core), &mut || {
-        timed(plain)
-    });
+    let kept = || {
+        let mut kept = Kept::of(&plain_station);
+        for day in 3..80_000 {
+            kept.call(|station| station.repair(rules, black_box(day)))
+                .unwrap();
+        }
+        kept.0[1] as u64
+    };
+    side_by_side(
+        "repairs, corn",
+        79_997,
+        &mut || timed(core),
+        &mut || timed(plain),
+        Some(&mut || timed(kept)),
+    );
 }
 
 fn bench_openings(rules: &Rules) {
@@ -267,9 +410,13 @@ fn bench_openings(rules: &Rules) {
         let open = |row| black_box(model::Station::open(rules, black_box(row)).0);
         (0..100_000).map(|n| open(n % 2).row as u64).sum()
     };
-    side_by_side("openings", 100_000, &mut || timed(core), &mut || {
-        timed(plain)
-    });
+    side_by_side(
+        "openings",
+        100_000,
+        &mut || timed(core),
+        &mut || timed(plain),
+        None,
+    );
 }
 
 fn bench_readings() {
@@ -294,9 +441,13 @@ fn bench_readings() {
         }
         sum
     };
-    side_by_side("readings", 64 * CALLS, &mut || timed(core), &mut || {
-        timed(plain)
-    });
+    side_by_side(
+        "readings",
+        64 * CALLS,
+        &mut || timed(core),
+        &mut || timed(plain),
+        None,
+    );
 }
 
 fn bench_chart_sets(rules: &Rules) {
@@ -343,6 +494,7 @@ fn bench_chart_sets(rules: &Rules) {
         4 * sets.len(),
         &mut || timed(core),
         &mut || timed(plain),
+        None,
     );
 }
 
@@ -388,6 +540,7 @@ fn bench_text(rules: &Rules) {
         20 * text.len(),
         &mut || go(&mut out, &core),
         &mut || go(&mut plain_out, &plain),
+        None,
     );
 }
 
@@ -396,8 +549,8 @@ fn main() {
     println!("{RUNS} runs each after one to warm up; the order of the sides alternates");
     println!("millions a second (median, spread); ratio: the core's time over the model's");
     println!(
-        "{:<22}{:>15}{:>16}{:>8}{:>9}{:>8}",
-        "", "core", "model", "ratio", "fastest", "noise"
+        "{:<22}{:>15}{:>16}{:>8}{:>9}{:>10}{:>8}",
+        "", "core", "model", "ratio", "fastest", "in array", "noise"
     );
     bench_sheets(&rules, 0, "sheets, wheat");
     bench_sheets(&rules, 1, "sheets, corn");
@@ -408,5 +561,6 @@ fn main() {
     bench_readings();
     bench_chart_sets(&rules);
     bench_text(&rules);
+    println!("in array: the core's time over the model's with its state in an array of int32_t");
     println!("noise: the model's time over its own, measured again in the same runs");
 }

@@ -1,8 +1,8 @@
 // Paper 01's cases that carry no star, each number of refusal once, and whole lists of calls: each call is run, and its answer printed.
 mod calls;
 mod lists;
+mod numbers;
 mod paper;
-mod refusals;
 mod say;
 mod sheets;
 
@@ -11,10 +11,10 @@ fn main() {
     paper::adjustments();
     paper::figures();
     paper::days_and_bases();
-    refusals::stations();
-    refusals::sizes();
-    refusals::sheet_numbers();
-    refusals::lines(refusals::scans());
+    numbers::stations();
+    numbers::sizes();
+    numbers::sheet_numbers();
+    numbers::lines(numbers::scans());
     lists::repaired(lists::adjusted());
     lists::shut_by_none();
     lists::shut_by_bound();

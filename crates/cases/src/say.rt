@@ -9,8 +9,6 @@ use rules::Refusal;
 use rules::RepairAnswer;
 use rules::SheetAnswer;
 use whole::Int;
-ghost use mathlib.Core.Path.{_≡_};
-ghost use Rattle.rules.specs.Refusals.{numberOf};
 
 fn text(t: &[u8]) {
     io::write_all(STDOUT_FILENO, t);
@@ -34,30 +32,8 @@ fn whole_number(before: &[u8], z: i32) {
     }
 }
 
-fn number(r: Refusal) -> u32
-    ensures { λ n. ⌜ n ≡ numberOf r ⌝ }
-{
-    match r {
-        Refusal::UnsoundStation => 0,
-        Refusal::UnknownRow => 1,
-        Refusal::BadDay => 2,
-        Refusal::UnknownLine => 3,
-        Refusal::SheetSize => 4,
-        Refusal::SheetNumber => 5,
-        Refusal::ThirdReading => 6,
-        Refusal::AgainPair => 7,
-        Refusal::WrongScan => 8,
-        Refusal::BadFloat => 9,
-        Refusal::BadBasis => 10,
-        Refusal::BadValue => 11,
-        Refusal::NotOpen => 12,
-        Refusal::OldSet => 13,
-        Refusal::TooHigh => 14,
-    }
-}
-
 fn refusal(r: Refusal) {
-    natural(b": refused ", number(r));
+    whole_number(b": refused ", refusals::number(r));
     text(b"\n");
 }
 

@@ -2,13 +2,16 @@
 use mathlib.Core.Path.{_≡_, refl}
 use mathlib.Core.List.{map}
 use Rattle.decimal.specs.Show.{shown, show, showSigned}
-use Rattle.chart_sets.specs.Sets.{badWeek, badSize, outside, badResult, setOf}
+use Rattle.chart_bounds.specs.Bounds.{badWeek, badSize, outside, badResult}
+use Rattle.chart_sets.specs.Sets.{setOf}
 use Rattle.chart_sets.specs.Soundness.{soundSet}
 use Rattle.chart_rules.specs.Rows.{limitsOf}
-use Rattle.chart_rules.specs.Rules.{absolute, atOrAbove, atOrBelow, tolerance, rangeTolerance, above, below, oneSide, sixtieths, runBy, run}
-use Rattle.chart.specs.Charts.{sound, freshChart, nextChart}
-use Rattle.chart.specs.Lines.{valuesOf, flagBytes, lineOf}
-use Rattle.chart.specs.Calls.{refusalOf, decided, accepted, resultOf, bytesOf}
+use Rattle.chart_rules.specs.Rules.{absolute, atOrAbove, atOrBelow, tolerance, rangeTolerance}
+use Rattle.chart_run.specs.Run.{above, below, oneSide, sixtieths, runBy, run}
+use Rattle.chart_state.specs.Charts.{sound, freshChart, nextChart}
+use Rattle.chart_line.specs.Lines.{valuesOf, flagBytes, lineOf}
+use Rattle.chart_refusals.specs.Checks.{refusalOf}
+use Rattle.chart.specs.Calls.{decided, accepted, resultOf, bytesOf}
 use Rattle.chart.specs.Cases.{runs, week26, line26}
 
 pub runs-hold : map (λ c. c .gives) runs ≡ map (λ c. c .says) runs

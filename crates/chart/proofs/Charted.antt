@@ -5,26 +5,23 @@ use mathlib.Core.Option.{some}
 use Prim.Native.Nat.{ℕ, _≤_}
 use native.Mathlib.Omega.{arith}
 use lib.IntN.{ℤ}
-use lib.ListN.{length, length-append}
+use lib.ListN.{length}
 use borrow.Author.Tests.{le-ltb}
-use Rattle.whole.proofs.PartLaws.{either, sizeParts}
 use Rattle.decimal.specs.Put.{overwritten}
-use Rattle.decimal.proofs.Show.{width-5}
-use Rattle.decimal.proofs.Signs.{width-signed}
 use Rattle.chart_sets.specs.Sets.{setOf}
-use Rattle.chart_sets.specs.Soundness.{SetFits}
-use Rattle.chart_sets.specs.declared.ChartSet.{ChartSet}
-use Rattle.chart.specs.Lines.{valuesOf, lineOf, FiveDigits}
-use Rattle.chart.specs.Calls.{refusalOf, accepted, resultOf, bytesOf, SetCharted, chartSetOf}
+use Rattle.chart_line.specs.Lines.{valuesOf, lineOf}
+use Rattle.chart_refusals.specs.Checks.{refusalOf}
+use Rattle.chart.specs.Calls.{accepted, resultOf, bytesOf, SetCharted, chartSetOf}
 use Rattle.chart.specs.Answers.{chartSays}
 use Rattle.chart.specs.Laws.{RefusedUntouched, LineFits}
-use Rattle.chart.specs.declared.Chart.{Chart}
-use Rattle.chart.specs.declared.Values.{Values}
+use Rattle.chart_state.specs.declared.Chart.{Chart}
+use Rattle.chart_line.specs.declared.Values.{Values}
 use Rattle.chart.specs.declared.ChartResult.{ChartResult}
 use Rattle.chart.specs.declared.ChartAnswer.the-variants.{Charted}
-use Rattle.chart.proofs.Places.{flags-length}
-use Rattle.chart.proofs.Soundness.{FineCall, call-cases, fine-set}
-use Rattle.chart_sets.proofs.Sums.{week-facts}
+use Rattle.chart_line.proofs.Lines.{values-small, line-short}
+use Rattle.chart_refusals.proofs.Fine.{FineCall}
+use Rattle.chart.proofs.Soundness.{call-cases, fine-set}
+use Rattle.chart_bounds.proofs.Bounds.{week-facts}
 
 -- a buffer of 40 bytes is as good as any longer one
 pub enough-room : (c : Chart) (week : ℕ) (numbers : List ℤ) (room : ℕ) → 40 ≤ room → resultOf c week numbers room ≡ resultOf c week numbers 40
@@ -32,17 +29,6 @@ unfolding resultOf refusalOf
 enough-room c week numbers room h = rw (le-ltb room 40 h)
 
 -- ---- lines
-pub values-small : (c : Chart) (week : ℕ) (s : ChartSet) → week ≤ 9999 → SetFits s → FiveDigits (valuesOf c week s)
-unfolding valuesOf
-values-small c week s h f =
-    record { week = omega arith; count = omega (arith, f .five); sum = omega (arith, f .sum, sizeParts (s .sum), either (s .sum)); range = omega (arith, f .range) }
-
-line-short : (v : Values) → FiveDigits v → length (lineOf v) ≤ 40
-unfolding lineOf
-line-short v h =
-    simp length-append
-    (omega (arith, width-5 (v .week) (h .week), width-5 (v .count) (h .count), width-signed (v .sum) (h .sum), width-5 (v .range) (h .range), flags-length v))
-
 fine-short : (c : Chart) (week : ℕ) (numbers : List ℤ) (room : ℕ) → FineCall c week numbers room → length (lineOf (valuesOf c week (setOf numbers))) ≤ 40
 fine-short c week numbers room f =
     line-short _ (values-small c week (setOf numbers) (week-facts (c .week) week (f .time) .1) (fine-set c week numbers room f))

@@ -1,4 +1,3 @@
-pub mod Places
 pub mod Soundness
 pub mod Charted
 pub mod Cases

@@ -4,7 +4,7 @@ use mathlib.Core.Bool.{Bool, cond}
 use mathlib.Core.List.{List, [], _∷_}
 use mathlib.Core.Option.{Option, none, some}
 use lib.IntN.{ℤ, pos}
-use Rattle.chart.specs.Refusals.{numberOf}
+use Rattle.chart_refusals.specs.Refusals.{numberOf}
 use Rattle.chart.specs.declared.OpenAnswer.{OpenAnswer}
 use Rattle.chart.specs.declared.OpenAnswer.the-variants as Open
 use Rattle.chart.specs.declared.ChartAnswer.{ChartAnswer}

@@ -1,40 +1,19 @@
 -- Paper 01, "Control charts" and "Refused calls": the call that charts one set (chart, week, pairs, buffer).
 use Prim.Native.Nat.{ℕ}
-use mathlib.Core.Bool.{Bool, not}
-use mathlib.Core.List.{List, [], _∷_}
+use mathlib.Core.List.{List, []}
 use lib.IntN.{ℤ}
 use lib.ListN.{length}
-use lib.Dec.{ltb}
 use Rattle.decimal.specs.Put.{overwritten}
-use Rattle.chart_sets.specs.Sets.{badWeek, badSize, badResult, setOf}
-use Rattle.chart.specs.Refusals.{Check, firstRefusal}
-use Rattle.chart.specs.Charts.{sound, nextChart}
-use Rattle.chart.specs.Lines.{valuesOf, lineOf}
-use Rattle.chart.specs.declared.Chart.{Chart}
-use Rattle.chart.specs.declared.Refusal.the-variants.{UnsoundChart, BadWeek, BadSize, BadResult, ShortBuffer}
-use Rattle.chart.specs.declared.Judgement.{Judgement}
-use Rattle.chart.specs.declared.Judgement.the-variants as J
+use Rattle.chart_sets.specs.Sets.{setOf}
+use Rattle.chart_refusals.specs.Checks.{refusalOf}
+use Rattle.chart_state.specs.Charts.{nextChart}
+use Rattle.chart_line.specs.Lines.{valuesOf, lineOf}
+use Rattle.chart_state.specs.declared.Chart.{Chart}
+use Rattle.chart_refusals.specs.declared.Judgement.{Judgement}
+use Rattle.chart_refusals.specs.declared.Judgement.the-variants as J
 use Rattle.chart.specs.declared.ChartAnswer.{ChartAnswer}
 use Rattle.chart.specs.declared.ChartAnswer.the-variants.{Charted, Refused}
 use Rattle.chart.specs.declared.ChartResult.{ChartResult}
-
--- 22: an output buffer for a line is shorter than 40 bytes
-abbrev pub shortBuffer : ℕ → Bool
-shortBuffer room = ltb room 40
-
--- the call's checks, in the order of their numbers
-abbrev pub checksOf : Chart → ℕ → List ℤ → ℕ → List Check
-checksOf c week numbers room =
-    record { applies = not (sound c); refusal = UnsoundChart }
-    ∷ record { applies = badWeek (c .week) week; refusal = BadWeek }
-    ∷ record { applies = badSize (length numbers); refusal = BadSize }
-    ∷ record { applies = badResult numbers; refusal = BadResult }
-    ∷ record { applies = shortBuffer room; refusal = ShortBuffer }
-    ∷ []
-
--- the call's refusal, where the buffer has this many bytes
-unfoldable pub refusalOf : Chart → ℕ → List ℤ → ℕ → Judgement
-refusalOf c week numbers room = firstRefusal (checksOf c week numbers room)
 
 -- an accepted call: the chart with the set, the line's values and its length
 unfoldable pub accepted : Chart → ℕ → List ℤ → ChartResult

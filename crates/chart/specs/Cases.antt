@@ -3,10 +3,10 @@ use mathlib.Core.List.{List, [], _∷_}
 use Prim.Native.Nat.{ℕ, suc, _+_, _-_, _*_, _/_}
 use lib.IntN.{ℤ, pos, negsuc}
 use lib.ListN.{drop, take}
-use Rattle.chart.specs.Charts.{freshChart}
+use Rattle.chart_state.specs.Charts.{freshChart}
 use Rattle.chart.specs.Calls.{resultOf}
 use Rattle.chart.specs.Answers.{chartSays}
-use Rattle.chart.specs.declared.Chart.{Chart}
+use Rattle.chart_state.specs.declared.Chart.{Chart}
 
 pub record Case : Type 0 where
   pub gives : List ℤ

@@ -5,14 +5,15 @@ use mathlib.Core.Bool.{true, false}
 use mathlib.Core.List.{List, [], _∷_, map}
 use mathlib.Core.Option.{none, some}
 use lib.IntN.{ℤ}
-use lib.ListN.{length, take}
-use Rattle.chart_sets.specs.declared.ChartSet.{ChartSet}
+use lib.ListN.{length}
 use Rattle.chart_rules.specs.Rows.{rowExists}
-use Rattle.chart.specs.Refusals.{numberOf}
-use Rattle.chart.specs.Charts.{sound, pastOf, openOf, nextChart}
-use Rattle.chart.specs.Calls.{checksOf, resultOf, bytesOf, chartSetOf}
+use Rattle.chart_refusals.specs.Refusals.{numberOf}
+use Rattle.chart.specs.Openings.{openOf}
+use Rattle.chart_state.specs.Charts.{sound}
+use Rattle.chart_refusals.specs.Checks.{checksOf}
+use Rattle.chart.specs.Calls.{resultOf, bytesOf, chartSetOf}
 use Rattle.chart.specs.Answers.{openSays, chartSays}
-use Rattle.chart.specs.declared.Chart.{Chart}
+use Rattle.chart_state.specs.declared.Chart.{Chart}
 
 -- an opened chart is sound, and a sound chart stays sound
 pub record StaysSound : Type 0 where
@@ -35,10 +36,6 @@ pub record RefusedUntouched : Type 0 where
 pub record LineFits : Type 0 where
   pub forty : (c : Chart) (week : ℕ) (numbers : List ℤ) (room : ℕ) → length (bytesOf (resultOf c week numbers room .answer)) ≤ 40
   pub inside : (c : Chart) (week : ℕ) (numbers : List ℤ) (room : ℕ) → length (bytesOf (resultOf c week numbers room .answer)) ≤ room
-
--- after a set the newest four are held
-abbrev pub NewestFour : Type 0
-NewestFour = (c : Chart) (week : ℕ) (s : ChartSet) → pastOf (nextChart c week s) ≡ take 4 (s ∷ pastOf c)
 
 -- the checks stand in the order of their numbers, so the first that applies has the lowest applying number
 abbrev pub Rising : List ℕ → Type 0

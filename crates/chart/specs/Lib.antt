@@ -1,6 +1,4 @@
-pub mod Refusals
-pub mod Charts
-pub mod Lines
+pub mod Openings
 pub mod Calls
 pub mod Answers
 pub mod Laws

@@ -1,6 +1,6 @@
 // Paper 01's chart cases that carry no star, run: four sets of sum 51 are a run, four of 50 are none. Each set's output line is written.
-use chart::Chart;
 use chart::ChartAnswer;
+use chart_state::Chart;
 use libc::STDOUT_FILENO;
 
 // Writes the first k bytes.

@@ -14,27 +14,32 @@ use Rattle.whole.proofs.ListLaws.{by-test}
 use Rattle.chart_lines.specs.declared.ValueLine.{ValueLine}
 use Rattle.chart_lines.specs.declared.LineRead.{LineRead}
 use Rattle.chart_lines.specs.declared.LineRead.the-variants.{Values, Bad}
-use Rattle.chart_sets.specs.Sets.{badWeek, badSize, outside, badResult}
-use Rattle.chart.specs.Charts.{sound, freshChart, opening, openOf, nextChart}
-use Rattle.chart.specs.Calls.{refusalOf, decided, accepted, resultOf}
+use Rattle.chart_bounds.specs.Bounds.{badWeek, badSize, outside, badResult}
+use Rattle.chart.specs.Openings.{opening, openOf}
+use Rattle.chart_state.specs.Charts.{sound, freshChart, nextChart}
+use Rattle.chart_refusals.specs.Checks.{refusalOf}
+use Rattle.chart.specs.Calls.{decided, accepted, resultOf}
 use Rattle.chart.specs.Answers.{chartSays}
-use Rattle.chart.specs.declared.Chart.{Chart}
-use Rattle.chart.specs.declared.Judgement.the-variants as J
+use Rattle.chart_state.specs.declared.Chart.{Chart}
+use Rattle.chart_refusals.specs.declared.Judgement.the-variants as J
 use Rattle.chart.proofs.Soundness.{stays-sound}
-use Rattle.chart_judge.specs.Judging.{Check, valueLines, firstRefusal, linesChecks, textChecks, starts, verdict, judged, FineLine, GoodLines}
-use Rattle.chart_file.specs.Gathering.{Gathered, none, pair, joined, finished, closed, kept, setsOf}
+use Rattle.chart_ruling.specs.Rulings.{Check, firstRefusal, FineLine}
+use Rattle.chart_judge.specs.Judging.{valueLines, linesChecks, textChecks, starts, verdict, judged, GoodLines}
+use Rattle.chart_gather.specs.Gathering.{Gathered, none, pair, joined, finished, closed, kept, setsOf}
 use Rattle.chart_file.specs.Texts.{outputNames, textSets, textLines, outputOf, answerOf}
-use Rattle.chart_judge.specs.Refusals.{numberOf}
+use Rattle.chart_ruling.specs.Refusals.{numberOf}
 use Rattle.chart_file.specs.Laws.{AllCharted, setResults, lineResults, valuesOf, GoodCharted, programRoom, ProgramFits}
 use Rattle.chart_file.specs.Answers.{textSays}
-use Rattle.chart_judge.specs.declared.TextRefusal.{TextRefusal}
-use Rattle.chart_judge.specs.declared.Ruling.{Ruling}
-use Rattle.chart_judge.specs.declared.Ruling.the-variants as R
+use Rattle.chart_ruling.specs.declared.TextRefusal.{TextRefusal}
+use Rattle.chart_ruling.specs.declared.Ruling.{Ruling}
+use Rattle.chart_ruling.specs.declared.Ruling.the-variants as R
 use Rattle.chart_judge.specs.declared.Verdict.the-variants as Ver
 use Rattle.chart_file.specs.declared.TextAnswer.{TextAnswer}
 use Rattle.chart_file.specs.declared.TextAnswer.the-variants.{Written, Refused}
-use Rattle.chart_judge.proofs.Judging.{fine-next, fine-start, fine-first, fine-text, one-or-none, not-one}
-use Rattle.chart_file.proofs.Gathering.{finished-some, first-sets, closed-start, closed-next, kept-start, kept-next, text-count, text-short}
+use Rattle.chart_ruling.proofs.Rulings.{fine-next, fine-start, fine-first}
+use Rattle.chart_judge.proofs.Judging.{fine-text, one-or-none, not-one}
+use Rattle.chart_gather.proofs.Gathering.{finished-some, closed-start, closed-next, kept-start, kept-next}
+use Rattle.chart_file.proofs.Gathering.{first-sets, text-count, text-short}
 use Rattle.chart_file.proofs.Answering.{refused-answer, full-answer, written-fine}
 
 -- sample 1, or not

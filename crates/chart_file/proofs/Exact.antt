@@ -15,7 +15,7 @@ use Rattle.chart_lines.specs.declared.ValueLine.{ValueLine}
 use Rattle.chart_lines.specs.declared.LineRead.{LineRead}
 use Rattle.chart_lines.specs.declared.LineRead.the-variants.{Values, Bad}
 use Rattle.decimal.proofs.Show.{lt-or-ge}
-use Rattle.chart_lines.proofs.Laws.{cond-true}
+use Rattle.chart_numbers.proofs.Laws.{cond-true}
 use Rattle.chart_lines.proofs.Canonical.{lines-exact, some-bytes}
 use Rattle.chart_judge.specs.Judging.{linesAt, valueLines, GoodLines}
 use Rattle.chart_file.specs.Texts.{answerOf}

@@ -1,14 +1,13 @@
 -- The sets of a good text and their output: one law for each way that the code goes.
 use mathlib.Core.Path.{_≡_, refl, sym, ap, _∙_}
 use mathlib.Core.Bool.{cond}
-use mathlib.Core.List.{List, [], _∷_, _++_, append-assoc, append-nil}
-use Prim.Native.Nat.{ℕ, suc, _+_, _*_, _≤_, _<_}
+use mathlib.Core.List.{List, [], _∷_, _++_}
+use Prim.Native.Nat.{ℕ, _+_, _*_, _≤_, _<_}
 use native.Mathlib.Omega.{arith}
-use lib.IntN.{ℤ}
-use lib.ListN.{length, take, set, length-append, length-take, length-set}
-use lib.Seq.{sets, take-suc-set}
+use lib.ListN.{length, length-append}
+use lib.Seq.{sets}
 use lib.Dec.{eqb}
-use borrow.Author.Tests.{eq-eqb, ne-eqb}
+use borrow.Author.Tests.{eq-eqb}
 use Rattle.whole.proofs.ListLaws.{by-test}
 use Rattle.decimal.specs.Put.{Put}
 use Rattle.decimal.proofs.Put.{sets-append, put-length}
@@ -16,28 +15,19 @@ use Rattle.chart_lines.specs.Line.{lineAt}
 use Rattle.chart_lines.specs.declared.ValueLine.{ValueLine}
 use Rattle.chart_lines.specs.declared.LineRead.{LineRead}
 use Rattle.chart_lines.specs.declared.LineRead.the-variants.{Values, Bad}
-use Rattle.chart.specs.Charts.{freshChart}
-use Rattle.chart.specs.Calls.{resultOf}
-use Rattle.chart.specs.Calls as Call
-use Rattle.chart.specs.declared.Chart.{Chart}
-use Rattle.chart.specs.declared.Values.{Values as ChartValues}
-use Rattle.chart.specs.declared.ChartResult.{ChartResult}
-use Rattle.chart.specs.declared.ChartAnswer.{ChartAnswer}
-use Rattle.chart.specs.declared.ChartAnswer.the-variants.{Charted}
-use Rattle.chart.proofs.Charted.{line-fits, charted-length}
-use Rattle.chart_judge.specs.Judging.{linesAt, valueLines, starts, FineLine, GoodLines}
-use Rattle.chart_file.specs.Gathering.{Gathered, none, joined, finished, closed, kept, setsOf, seen}
-use Rattle.chart_file.specs.Texts.{chartAll, chartAfter, textSets, textLines, Stepped}
-use Rattle.chart_file.specs.declared.TextSet.{TextSet}
-use Rattle.chart_file.specs.declared.Progress.{Progress}
+use Rattle.chart_state.specs.Charts.{freshChart}
+use Rattle.chart_ruling.specs.Rulings.{FineLine}
+use Rattle.chart_judge.specs.Judging.{linesAt, valueLines, starts, GoodLines}
+use Rattle.chart_gather.specs.Gathering.{Gathered, none, joined, finished, closed, kept, setsOf, seen}
+use Rattle.chart_gather.specs.Charting.{chartAll, chartAfter, Stepped}
+use Rattle.chart_file.specs.Texts.{textSets, textLines}
+use Rattle.chart_gather.specs.declared.Progress.{Progress}
+use Rattle.chart_gather.proofs.Gathering.{finished-some}
+use Rattle.chart_gather.proofs.Charting.{chart-append, chart-short}
 use Rattle.chart_judge.proofs.Lines.{lines-end, lines-bad, lines-more}
-use Rattle.chart_judge.proofs.Judging.{fine-first}
+use Rattle.chart_ruling.proofs.Rulings.{fine-first}
 
 -- ---- the number of a good text's sets
-pub finished-some : (s : Gathered) → 0 < length (s .numbers) → finished s ≡ s ∷ []
-unfolding finished
-finished-some s h = rw (ne-eqb (length (s .numbers)) 0 (omega arith))
-
 joined-some : (s : Gathered) (v : ValueLine) → 0 < length (joined s v .numbers)
 joined-some s v = simp length-append (omega arith)
 
@@ -88,43 +78,6 @@ count-sets (Values v next ∷ ls) g =
 pub text-count : (text : List ℕ) → GoodLines 0 0 (valueLines text) → starts (valueLines text) ≡ length (textSets text)
 unfolding textSets
 text-count text g = count-sets (valueLines text) g
-
--- ---- output of several sets
-pub chart-append : (c : Chart) (a b : List Gathered) → chartAll c (a ++ b) ≡ chartAll c a ++ chartAll (chartAfter c a) b
-unfolding chartAll chartAfter
-chart-append c [] b = refl
-chart-append c (s ∷ a) b =
-    let r = resultOf c (s .week) (s .numbers) 40 in
-    ap (λ (l : List ℕ). Call.bytesOf (r .answer) ++ l) (chart-append (r .chart) a b) ∙ sym (append-assoc (Call.bytesOf (r .answer)) _ _)
-
-pub chart-short : (c : Chart) (l : List Gathered) → length (chartAll c l) ≤ 40 * length l
-unfolding chartAll
-chart-short c [] = omega arith
-chart-short c (s ∷ l) =
-    let r = resultOf c (s .week) (s .numbers) 40 in
-    simp length-append (omega (arith, line-fits .forty c (s .week) (s .numbers) 40, chart-short (r .chart) l))
-
--- ---- the code's set under way
-pub grown : (l : List ℤ) (c : ℕ) (o m : ℤ) → 2 * c + 1 < length l → take (2 * (c + 1)) (set (set l (2 * c) o) (2 * c + 1) m) ≡ take (2 * c) l ++ (o ∷ m ∷ [])
-grown l c o m h =
-    let e : 2 * (c + 1) ≡ suc (2 * c + 1) = omega arith in
-    let f : 2 * c + 1 ≡ suc (2 * c) = omega arith in
-    ap (λ (k : ℕ). take k (set (set l (2 * c) o) (2 * c + 1) m)) e
-    ∙ take-suc-set (set l (2 * c) o) (2 * c + 1) m (omega (arith, length-set l (2 * c) o))
-    ∙ ap (λ (k : ℕ). take k (set l (2 * c) o) ++ (m ∷ [])) f
-    ∙ ap (λ (r : List ℤ). r ++ (m ∷ [])) (take-suc-set l (2 * c) o (omega arith))
-    ∙ append-assoc (take (2 * c) l) (o ∷ []) (m ∷ [])
-
-pub seen-none : (s : TextSet) → s .count ≡ 0 → finished (seen s) ≡ []
-unfolding finished seen
-seen-none s e = rw e
-
-seen-long : (s : TextSet) → (s .count ≡ 0 → ⊥) → s .count ≤ 5 → length (s .numbers) ≡ 10 → 0 < length (seen s .numbers)
-unfolding seen
-seen-long s ne h ten = simp length-take (omega arith)
-
-pub seen-some : (s : TextSet) → (s .count ≡ 0 → ⊥) → s .count ≤ 5 → length (s .numbers) ≡ 10 → finished (seen s) ≡ seen s ∷ []
-seen-some s ne h ten = finished-some (seen s) (seen-long s ne h ten)
 
 -- ---- what is left to be written: written from here, it gives the whole
 pub record Left (text old : List ℕ) (start : ℕ) (out : List ℕ) (p : Progress) (at : ℕ) : Type 0 where
@@ -205,40 +158,6 @@ left-start text old start p c s n w e g h =
 pub left-bad : {text old : List ℕ} {start : ℕ} {out : List ℕ} {p : Progress} {at : ℕ} → Left text old start out p at → at < length text → lineAt text at ≡ Bad → ⊥
 unfolding GoodLines
 left-bad {text} {old} {start} {out} {p} {at} l h e = rw (lines-bad text at h e) at (l .good)
-
--- ---- the set under way, charted
-module _ (c : Chart) (s : TextSet) (fin : finished (seen s) ≡ seen s ∷ []) (r : ChartResult) (res : r ≡ resultOf c (s .week) (take (2 * s .count) (s .numbers)) 40) where
-  pub flush-chart : r .chart ≡ chartAfter c (finished (seen s))
-  unfolding chartAfter seen
-  flush-chart = ap (λ (x : ChartResult). x .chart) res ∙ sym (ap (chartAfter c) fin)
-
-  pub flush-bytes : Call.bytesOf (r .answer) ≡ chartAll c (finished (seen s))
-  unfolding chartAll seen
-  flush-bytes = ap (λ (x : ChartResult). Call.bytesOf (x .answer)) res ∙ sym (append-nil _) ∙ sym (ap (chartAll c) fin)
-
-  pub flush-length : (v : ChartValues) (k : ℕ) → r .answer ≡ Charted v k → k ≡ length (Call.bytesOf (r .answer))
-  unfolding Call.bytesOf
-  flush-length v k e =
-      charted-length c (s .week) (take (2 * s .count) (s .numbers)) 40 v k (ap (λ (x : ChartResult). x .answer) (sym res) ∙ e)
-      ∙ sym (ap (λ (a : ChartAnswer). length (Call.bytesOf a)) e)
-
--- ---- a line with sample 1, and any other
-module _ (s : Gathered) (v : ValueLine) where
-  pub closed-start : v .sample ≡ 1 → closed s v ≡ finished s
-  unfolding closed
-  closed-start e = rw (eq-eqb _ 1 e)
-
-  pub closed-next : (v .sample ≡ 1 → ⊥) → closed s v ≡ []
-  unfolding closed
-  closed-next ne = rw (ne-eqb _ 1 ne)
-
-  pub kept-start : v .sample ≡ 1 → kept s v ≡ none
-  unfolding kept
-  kept-start e = rw (eq-eqb _ 1 e)
-
-  pub kept-next : (v .sample ≡ 1 → ⊥) → kept s v ≡ s
-  unfolding kept
-  kept-next ne = rw (ne-eqb _ 1 ne)
 
 pub text-short : (text : List ℕ) → length (textLines text) ≤ 40 * length (textSets text)
 unfolding textLines

@@ -2,4 +2,3 @@ pub mod Gathering
 pub mod Answering
 pub mod Charted
 pub mod Exact
-pub mod Cases

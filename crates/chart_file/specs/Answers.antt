@@ -3,7 +3,7 @@ use mathlib.Core.List.{[], _∷_}
 use mathlib.Core.Option.{none, some}
 use lib.IntN.{pos}
 use Rattle.chart.specs.Answers.{Says}
-use Rattle.chart_judge.specs.Refusals.{numberOf}
+use Rattle.chart_ruling.specs.Refusals.{numberOf}
 use Rattle.chart_file.specs.declared.TextAnswer.{TextAnswer}
 use Rattle.chart_file.specs.declared.TextAnswer.the-variants.{Written, Refused}
 

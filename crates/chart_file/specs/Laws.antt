@@ -9,12 +9,12 @@ use Rattle.chart_lines.specs.Names.{namesLine}
 use Rattle.chart_lines.specs.declared.ValueLine.{ValueLine}
 use Rattle.chart_lines.specs.declared.LineRead.{LineRead}
 use Rattle.chart_lines.specs.declared.LineRead.the-variants.{Values, Bad}
-use Rattle.chart.specs.Charts.{freshChart}
+use Rattle.chart_state.specs.Charts.{freshChart}
 use Rattle.chart.specs.Calls.{resultOf}
 use Rattle.chart.specs.Answers.{chartSays}
-use Rattle.chart.specs.declared.Chart.{Chart}
+use Rattle.chart_state.specs.declared.Chart.{Chart}
 use Rattle.chart_judge.specs.Judging.{valueLines}
-use Rattle.chart_file.specs.Gathering.{Gathered, pair}
+use Rattle.chart_gather.specs.Gathering.{Gathered, pair}
 use Rattle.chart_file.specs.Texts.{textSets, answerOf, chartTextOf}
 use Rattle.chart_file.specs.Answers.{textSays}
 use Rattle.chart_file.specs.declared.TextAnswer.the-variants.{Written}

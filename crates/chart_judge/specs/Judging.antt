@@ -1,34 +1,19 @@
 -- Paper 01, "Control charts" and "Refused calls": a chart text's lines judged in turn, numbers 15 to 19 and 21 with the text line.
 use Prim.Native.Nat.{ℕ, zero, suc, _+_}
-use mathlib.Core.Path.{_≡_}
-use mathlib.Core.Bool.{Bool, true, false, not, _&&_, _||_, cond}
+use mathlib.Core.Bool.{true, not, cond}
 use mathlib.Core.List.{List, [], _∷_, _++_}
-use lib.IntN.{pos}
 use lib.ListN.{length}
-use lib.Dec.{leb, ltb, eqb}
+use lib.Dec.{ltb, eqb}
 use Rattle.chart_lines.specs.Line.{lineAt}
 use Rattle.chart_lines.specs.Names.{namesLine, startsWith}
-use Rattle.chart_lines.specs.declared.ValueLine.{ValueLine}
 use Rattle.chart_lines.specs.declared.LineRead.{LineRead}
 use Rattle.chart_lines.specs.declared.LineRead.the-variants.{Values, Bad}
-use Rattle.chart_sets.specs.Sets.{badResult, badWeek}
-use Rattle.chart_judge.specs.declared.TextRefusal.{TextRefusal}
-use Rattle.chart_judge.specs.declared.TextRefusal.the-variants.{TooLong, BadNames, BadLine, BadSample, BadWeek, BadResult}
-use Rattle.chart_judge.specs.declared.Ruling.{Ruling}
-use Rattle.chart_judge.specs.declared.Ruling.the-variants as R
+use Rattle.chart_ruling.specs.Rulings.{Check, firstRefusal, lineChecks, FineLine}
+use Rattle.chart_ruling.specs.declared.TextRefusal.the-variants.{TooLong, BadNames, BadLine}
+use Rattle.chart_ruling.specs.declared.Ruling.{Ruling}
+use Rattle.chart_ruling.specs.declared.Ruling.the-variants as R
 use Rattle.chart_judge.specs.declared.Verdict.{Verdict}
 use Rattle.chart_judge.specs.declared.Verdict.the-variants.{Good, Refused}
-
--- a refusal with its text line and the test by which it applies
-pub record Check : Type 0 where
-  pub applies : Bool
-  pub refusal : TextRefusal
-  pub line : ℕ
-
--- the first that applies
-abbrev pub firstRefusal : List Check → Ruling
-firstRefusal [] = R.Fine
-firstRefusal (c ∷ cs) = cond (c .applies) (R.Refused (c .refusal) (c .line)) (firstRefusal cs)
 
 -- ---- the lines of a text
 
@@ -49,28 +34,6 @@ linesAt text at = linesFrom (length text) text at
 -- the value lines of a text, behind its names line
 abbrev pub valueLines : List ℕ → List LineRead
 valueLines text = linesAt text (length namesLine)
-
--- ---- a line after the line before it, which has this week and this sample number (both 0 where there is none)
-
--- the week before it and the next sample number up to 5
-unfoldable pub isNext : ℕ → ℕ → ValueLine → Bool
-isNext week sample v = (not (eqb sample 0) && eqb (v .week) week) && (eqb (v .sample) (sample + 1) && leb (v .sample) 5)
-
--- another week and sample 1
-unfoldable pub isStart : ℕ → ℕ → ValueLine → Bool
-isStart week sample v = (eqb sample 0 || not (eqb (v .week) week)) && eqb (v .sample) 1
-
--- 18: the sample number is neither the next nor a start; 19: a starting week isn't above the last or is above 9999; 21: a result is outside
-abbrev pub lineChecks : ℕ → ℕ → ℕ → ValueLine → List Check
-lineChecks week sample line v =
-    record { applies = not (isNext week sample v || isStart week sample v); refusal = BadSample; line = line }
-    ∷ record { applies = isStart week sample v && badWeek week (v .week); refusal = BadWeek; line = line }
-    ∷ record { applies = badResult (pos (v .original) ∷ pos (v .monitor) ∷ []); refusal = BadResult; line = line }
-    ∷ []
-
--- a line's ruling
-unfoldable pub ruling : ℕ → ℕ → ℕ → ValueLine → Ruling
-ruling week sample line v = firstRefusal (lineChecks week sample line v)
 
 -- the lines' checks in turn, from this text line on; 17: a value line isn't as described
 abbrev pub linesChecks : ℕ → ℕ → ℕ → List LineRead → List Check
@@ -102,12 +65,6 @@ unfoldable pub judged : List ℕ → Verdict
 judged text = verdict (firstRefusal (textChecks text)) (starts (valueLines text))
 
 -- ---- what charting needs of a good text
-
--- none of 18, 19 and 21 applies to the line
-pub record FineLine (week sample : ℕ) (v : ValueLine) : Type 0 where
-  pub place : isNext week sample v || isStart week sample v ≡ true
-  pub time : isStart week sample v && badWeek week (v .week) ≡ false
-  pub results : badResult (pos (v .original) ∷ pos (v .monitor) ∷ []) ≡ false
 
 -- every line is fine after the one before it
 unfoldable pub GoodLines : ℕ → ℕ → List LineRead → Type 0

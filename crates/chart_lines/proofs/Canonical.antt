@@ -8,18 +8,18 @@ use lib.ListN.{length, drop, length-append}
 use lib.Seq.{drop-drop, drop-append-seam}
 use lib.Dec.{ltb, eqb}
 use borrow.Author.Tests.{eq-eqb, eqb-true, eqb-false, ltb-true}
-use Rattle.chart_lines.specs.Decimal.{isDigit, digits, number, numberAt}
+use Rattle.chart_numbers.specs.Decimal.{isDigit, digits, number, numberAt}
 use Rattle.chart_lines.specs.Line.{begins, ended, field, then, lineAt, valueLine, FiveDigits}
 use Rattle.chart_lines.specs.Laws.{LinesExact}
 use Rattle.decimal.specs.Show.{show}
-use Rattle.chart_lines.specs.declared.Number.{Number}
-use Rattle.chart_lines.specs.declared.Number.the-variants.{Value, Bad}
+use Rattle.chart_numbers.specs.declared.Number.{Number}
+use Rattle.chart_numbers.specs.declared.Number.the-variants.{Value, Bad}
 use Rattle.chart_lines.specs.declared.ValueLine.{ValueLine}
 use Rattle.chart_lines.specs.declared.LineRead.{LineRead}
 use Rattle.chart_lines.specs.declared.LineRead.the-variants as L
-use Rattle.chart_lines.proofs.Laws.{digit-range}
+use Rattle.chart_numbers.proofs.Laws.{digit-range}
 use Rattle.decimal.proofs.Show.{show-small, show-step}
-use Rattle.chart_lines.proofs.RoundTrip.{read-show}
+use Rattle.chart_numbers.proofs.RoundTrip.{read-show}
 
 -- ---- what is written is read
 

@@ -7,10 +7,10 @@ use native.Mathlib.Numerals.{add-one-le}
 use native.Mathlib.Omega.{arith}
 use lib.ListN.{drop}
 use lib.Dec.{ltb, eqb}
-use Rattle.chart_lines.specs.Decimal.{isDigit, digits, number, numberAt}
+use Rattle.chart_numbers.specs.Decimal.{isDigit, digits, number, numberAt}
 use Rattle.chart_lines.specs.Line.{begins, ended, field, then, lineAt}
-use Rattle.chart_lines.specs.declared.Number.{Number}
-use Rattle.chart_lines.specs.declared.Number.the-variants.{Value, Bad}
+use Rattle.chart_numbers.specs.declared.Number.{Number}
+use Rattle.chart_numbers.specs.declared.Number.the-variants.{Value, Bad}
 use Rattle.chart_lines.specs.declared.ValueLine.{ValueLine}
 use Rattle.chart_lines.specs.declared.LineRead.{LineRead}
 use Rattle.chart_lines.specs.declared.LineRead.the-variants as L

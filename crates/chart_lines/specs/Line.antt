@@ -4,10 +4,10 @@ use mathlib.Core.Bool.{Bool, false, cond}
 use mathlib.Core.List.{List, [], _∷_, _++_}
 use lib.ListN.{drop}
 use lib.Dec.{eqb}
-use Rattle.chart_lines.specs.Decimal.{numberAt}
+use Rattle.chart_numbers.specs.Decimal.{numberAt}
 use Rattle.decimal.specs.Show.{show}
-use Rattle.chart_lines.specs.declared.Number.{Number}
-use Rattle.chart_lines.specs.declared.Number.the-variants as N
+use Rattle.chart_numbers.specs.declared.Number.{Number}
+use Rattle.chart_numbers.specs.declared.Number.the-variants as N
 use Rattle.chart_lines.specs.declared.ValueLine.{ValueLine}
 use Rattle.chart_lines.specs.declared.LineRead.{LineRead}
 use Rattle.chart_lines.specs.declared.LineRead.the-variants.{Values, Bad}

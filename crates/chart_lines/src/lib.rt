@@ -1,16 +1,8 @@
 // Reads the value lines of the chart text: four decimals, single spaces, a line feed.
+use chart_numbers::Number;
 ghost use mathlib.Core.Path.{_≡_};
-ghost use Prim.Native.Nat.{_<_};
-ghost use lib.ListN.{drop};
-ghost use Rattle.chart_lines.specs.Decimal.{isDigit, digits, numberAt};
 ghost use Rattle.chart_lines.specs.Line.{field as fieldOf, lineAt};
 ghost use Rattle.chart_lines.specs.Names.{namesLine, startsWith};
-
-// A number that was read, and the position behind it.
-pub enum Number {
-    Value(u32, usize),
-    Bad,
-}
 
 pub struct ValueLine {
     pub week: u32,
@@ -25,56 +17,11 @@ pub enum LineRead {
     Bad,
 }
 
-pub fn is_digit(c: u8) -> bool
-    ensures { λ r. ⌜ r ≡ isDigit c ⌝ }
-{
-    if 48 <= c { c <= 57 } else { false }
-}
-
-// The digits from position at on, after those that made n.
-fn digits_at(text: &[u8], at: usize, first: u32) -> Number
-    requires { ⌜ first < 100000 ⌝ }
-    ensures { λ r. ⌜ r ≡ digits first at (drop at (now (text .entry))) ⌝ }
-{
-    let mut n = first;
-    let mut i = at;
-    while i < text.len() {
-        let c = text[i];
-        if !is_digit(c) {
-            return Number::Value(n, i);
-        }
-        if n >= 10000 {
-            return Number::Bad;
-        }
-        n = 10 * n + (c - 48) as u32;
-        i += 1;
-    }
-    Number::Value(n, i)
-}
-
-// The number at position at.
-pub fn number_at(text: &[u8], at: usize) -> Number
-    ensures { λ r. ⌜ r ≡ numberAt (now (text .entry)) at ⌝ }
-{
-    if text.len() <= at {
-        return Number::Bad;
-    }
-    let c = text[at];
-    if c == 48 {
-        return Number::Value(0, at + 1);
-    }
-    if is_digit(c) {
-        digits_at(text, at + 1, (c - 48) as u32)
-    } else {
-        Number::Bad
-    }
-}
-
 // The number at position at with the byte end behind it: the position moves past that byte.
 pub fn field(text: &[u8], end: u8, at: usize) -> Number
     ensures { λ r. ⌜ r ≡ fieldOf (now (text .entry)) end at ⌝ }
 {
-    let Number::Value(n, i) = number_at(text, at) else {
+    let Number::Value(n, i) = chart_numbers::number_at(text, at) else {
         return Number::Bad;
     };
     if i < text.len() {

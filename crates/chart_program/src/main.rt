@@ -15,6 +15,6 @@ fn main() {
     let n = io::read_full(STDIN_FILENO, &mut text);
     // chart_file's ProgramFits: the output of every text fits.
     let mut out = [0u8; 400000];
-    let k = chart_file::print_text(&text[..n], &mut out);
+    let k = chart_print::print_text(&text[..n], &mut out);
     print_front(&out, k);
 }

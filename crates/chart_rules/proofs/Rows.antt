@@ -8,8 +8,7 @@ use lib.Dec.{leb}
 use borrow.Author.Tests.{leb-true}
 use Rattle.whole.specs.Lists.{all}
 use Rattle.whole.proofs.Tests.{and-both}
-use Rattle.chart_rules.specs.Rows.{limits, rows, limitsOf}
-use Rattle.chart_rules.specs.Held.{SmallLimits}
+use Rattle.chart_rules.specs.Rows.{limits, rows, limitsOf, SmallLimits}
 use Rattle.chart_rules.specs.declared.Limits.{Limits}
 
 -- what passes of every element and of the default passes of any place

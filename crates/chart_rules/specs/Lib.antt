@@ -1,4 +1,2 @@
 pub mod Rows
 pub mod Rules
-pub mod Held
-pub mod Laws

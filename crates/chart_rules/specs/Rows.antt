@@ -1,5 +1,5 @@
 -- Paper 01, "Control charts": the rows.
-use Prim.Native.Nat.{ℕ}
+use Prim.Native.Nat.{ℕ, _≤_}
 use mathlib.Core.Bool.{Bool}
 use mathlib.Core.List.{List, [], _∷_}
 use lib.ListN.{length, getD}
@@ -26,3 +26,9 @@ rowExists row = ltb row (length rows)
 -- a row's limits (of a row that doesn't exist: 0)
 unfoldable pub limitsOf : ℕ → Limits
 limitsOf row = getD rows row (limits 0 0 0 0 0)
+
+-- what the rules' code needs: no limit is large
+pub record SmallLimits (l : Limits) : Type 0 where
+  pub al : l .al ≤ 1000
+  pub tl : l .tl ≤ 1000
+  pub run : l .run ≤ 1000

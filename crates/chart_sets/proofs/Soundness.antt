@@ -1,21 +1,23 @@
 -- What is known of a sound set, and that the set of good results is sound.
 use mathlib.Core.Path.{_≡_}
 use mathlib.Core.Bool.{true, false}
-use mathlib.Core.List.{List}
-use Prim.Native.Nat.{_*_}
+use mathlib.Core.List.{List, [], _∷_}
+use Prim.Native.Nat.{ℕ, zero, suc, _*_, _<_}
 use native.Mathlib.Omega.{arith}
 use lib.IntN.{ℤ, natAbs, _-ℤ_}
-use lib.ListN.{length}
+use lib.ListN.{length, take, getD}
 use lib.Dec.{leb}
 use borrow.Author.Tests.{le-leb, leb-true}
-use Rattle.whole.specs.Lists.{total, largest, smallest}
+use Rattle.whole.specs.Lists.{all, total, largest, smallest}
 use Rattle.whole.proofs.PartLaws.{either, sizeParts}
 use Rattle.whole.proofs.ListLaws.{total-within, spread-within}
 use Rattle.whole.proofs.Tests.{and-both}
-use Rattle.chart_sets.specs.Sets.{badSize, badResult, differences, setOf}
-use Rattle.chart_sets.specs.Soundness.{soundSet, SetFits}
+use Rattle.chart_bounds.specs.Bounds.{badSize, badResult}
+use Rattle.chart_sets.specs.Sets.{differences, setOf}
+use Rattle.chart_sets.specs.Soundness.{soundSet, SetFits, AllFit}
 use Rattle.chart_sets.specs.declared.ChartSet.{ChartSet}
-use Rattle.chart_sets.proofs.Sums.{size-facts, each-inside, each-diff, diff-length}
+use Rattle.chart_bounds.proofs.Bounds.{size-facts, each-inside}
+use Rattle.chart_sets.proofs.Sums.{each-diff, diff-length}
 
 pub set-fits : (s : ChartSet) → soundSet s ≡ true → SetFits s
 unfolding soundSet
@@ -45,3 +47,14 @@ set-sound numbers e f =
       le-leb (natAbs (total ds)) (10000 * length ds) (omega (arith, sizeParts (total ds), either (total ds))),
       le-leb (natAbs z) 20000 (omega (arith, sizeParts z)),
     )
+
+-- ---- some sets
+pub all-fit : (l : List ChartSet) → all soundSet l ≡ true → AllFit l
+all-fit [] e = tt
+all-fit (s ∷ l) e = let p = and-both (soundSet s) (all soundSet l) e in (set-fits s (p .0), all-fit l (p .1))
+
+pub fit-at : (d : ChartSet) (n i : ℕ) (l : List ChartSet) → i < n → i < length l → AllFit (take n l) → SetFits (getD l i d)
+fit-at d zero i l h k f = absurd (omega arith)
+fit-at d (suc n) i [] h k f = absurd (omega arith)
+fit-at d (suc n) zero (s ∷ l) h k f = f .0
+fit-at d (suc n) (suc i) (s ∷ l) h k f = fit-at d n i l (omega arith) (omega arith) (f .1)

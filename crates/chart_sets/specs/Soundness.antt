@@ -1,6 +1,7 @@
 -- Paper 01, "Refused calls": a sound chart's held sets.
 use Prim.Native.Nat.{_*_, _≤_}
 use mathlib.Core.Bool.{Bool, _&&_}
+use mathlib.Core.List.{List, [], _∷_}
 use lib.IntN.{natAbs}
 use lib.Dec.{leb}
 use Rattle.whole.specs.Parts.{Within}
@@ -16,3 +17,8 @@ pub record SetFits (s : ChartSet) : Type 0 where
   pub five : s .count ≤ 5
   pub sum : Within 50000 50000 (s .sum)
   pub range : s .range ≤ 20000
+
+-- each of the sets fits
+abbrev pub AllFit : List ChartSet → Type 0
+AllFit [] = Unit {0}
+AllFit (s ∷ l) = SetFits s × AllFit l

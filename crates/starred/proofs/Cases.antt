@@ -11,13 +11,16 @@ use Rattle.rules.specs.Markets.{correctedValue, tooHigh, tenths, tenthsAt, mark
 use Rattle.rules.specs.Judging.{sheetNumbers, marketNumbers, sheetSet, sheetVerdict}
 use Rattle.rules.specs.Soundness.{soundLine, sound}
 use Rattle.rules.specs.Stations.{sheetStation, outcomeOf, sheetOf, marketOf}
-use Rattle.chart_sets.specs.Sets.{badWeek, badSize, outside, badResult, setOf as chartSetOf}
+use Rattle.chart_bounds.specs.Bounds.{badWeek, badSize, outside, badResult}
+use Rattle.chart_sets.specs.Sets.{setOf as chartSetOf}
 use Rattle.chart_sets.specs.Soundness.{soundSet}
 use Rattle.chart_rules.specs.Rows as chartRows
-use Rattle.chart_rules.specs.Rules.{absolute, atOrAbove, atOrBelow, tolerance, rangeTolerance, above, below, oneSide, sixtieths, runBy, run}
-use Rattle.chart.specs.Charts.{sound as soundChart, nextChart}
-use Rattle.chart.specs.Lines.{valuesOf}
-use Rattle.chart.specs.Calls.{refusalOf, decided, accepted, resultOf}
+use Rattle.chart_rules.specs.Rules.{absolute, atOrAbove, atOrBelow, tolerance, rangeTolerance}
+use Rattle.chart_run.specs.Run.{above, below, oneSide, sixtieths, runBy, run}
+use Rattle.chart_state.specs.Charts.{sound as soundChart, nextChart}
+use Rattle.chart_line.specs.Lines.{valuesOf}
+use Rattle.chart_refusals.specs.Checks.{refusalOf}
+use Rattle.chart.specs.Calls.{decided, accepted, resultOf}
 use Rattle.rules.specs.Cases.{Case}
 use Rattle.starred.specs.Cases.{starred}
 

@@ -4,16 +4,19 @@ use native.Mathlib.Omega.{arith}
 use Prim.Native.Nat.{_-_}
 use lib.ListN.{length}
 use denote.Ref.{now}
-use Rattle.chart_rules.proofs.Held.{all-fit}
-use Rattle.chart.specs.Charts.{nextChart, pastOf}
-use Rattle.chart.specs.Lines.{valuesOf, lineOf}
-use Rattle.chart.specs.Calls.{refusalOf, resultOf, decided, accepted, bytesOf}
-use Rattle.chart.specs.declared.Values.{Values}
-use Rattle.chart.specs.declared.Judgement.{Judgement}
+use Rattle.chart_sets.proofs.Soundness.{all-fit}
+use Rattle.chart_state.specs.Charts.{nextChart, pastOf}
+use Rattle.chart_line.specs.Lines.{valuesOf, lineOf}
+use Rattle.chart_refusals.specs.Checks.{refusalOf}
+use Rattle.chart.specs.Calls.{resultOf, decided, accepted, bytesOf}
+use Rattle.chart_line.specs.declared.Values.{Values}
+use Rattle.chart_refusals.specs.declared.Judgement.{Judgement}
 use Rattle.chart.specs.declared.ChartAnswer.the-variants.{Charted}
-use Rattle.chart.proofs.Soundness.{FineCall, fine-call, fine-set, sound-chart}
-use Rattle.chart_sets.proofs.Sums.{week-facts}
-use Rattle.chart.proofs.Charted.{values-small}
+use Rattle.chart_state.proofs.Soundness.{sound-chart}
+use Rattle.chart_refusals.proofs.Fine.{FineCall, fine-call}
+use Rattle.chart.proofs.Soundness.{fine-set}
+use Rattle.chart_bounds.proofs.Bounds.{week-facts}
+use Rattle.chart_line.proofs.Lines.{values-small}
 use borrow.Author.Needs.{needs}
 use Rattle.chart.proofs.chart_at.Statement.{statement}
 use Rattle.chart.proofs.chart_at.Tie as tie

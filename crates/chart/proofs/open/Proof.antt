@@ -1,5 +1,5 @@
 -- `chart::open` meets its contract.
-use Rattle.chart.specs.Charts.{opening, openOf}
+use Rattle.chart.specs.Openings.{opening, openOf}
 use borrow.Author.Tests.{lt-ltb, le-ltb}
 use borrow.Author.Needs.{needs}
 use Rattle.chart.proofs.open.Statement.{statement}

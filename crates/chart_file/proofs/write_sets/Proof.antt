@@ -9,11 +9,11 @@ use denote.Ref.{now}
 use Rattle.chart_lines.specs.Line.{lineAt}
 use Rattle.chart_lines.specs.declared.LineRead.the-variants.{Values}
 use Rattle.chart_lines.proofs.Forward.{line-forward}
-use Rattle.chart.specs.Charts.{opening, openOf}
+use Rattle.chart.specs.Openings.{opening, openOf}
 use Rattle.chart.specs.declared.Opening.{Opening}
-use Rattle.chart_file.specs.Gathering.{seen}
+use Rattle.chart_gather.specs.Gathering.{seen}
 use Rattle.chart_file.proofs.Gathering.{Left, left-start, left-bad, left-fine, left-room, left-step, left-last, left-done}
-use Rattle.chart_judge.proofs.Judging.{fine-sample}
+use Rattle.chart_ruling.proofs.Rulings.{fine-sample}
 use Rattle.chart_file.proofs.write_sets.Statement.{statement}
 use Rattle.chart_file.proofs.write_sets.Tie as tie
 

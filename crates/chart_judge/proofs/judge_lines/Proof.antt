@@ -9,8 +9,10 @@ use denote.Ref.{now}
 use Rattle.chart_lines.specs.Line.{lineAt}
 use Rattle.chart_lines.specs.declared.LineRead.the-variants.{Values}
 use Rattle.chart_lines.proofs.Forward.{line-forward}
-use Rattle.chart_judge.specs.Judging.{firstRefusal, linesAt, valueLines, linesChecks, starts, verdict, FineLine}
-use Rattle.chart_judge.proofs.Judging.{verdictAt, judge-start, judge-end, judge-bad, judge-refused, judge-more, fine-line, fine-sample, one-or-none}
+use Rattle.chart_ruling.specs.Rulings.{firstRefusal, FineLine}
+use Rattle.chart_judge.specs.Judging.{linesAt, valueLines, linesChecks, starts, verdict}
+use Rattle.chart_ruling.proofs.Rulings.{fine-line, fine-sample}
+use Rattle.chart_judge.proofs.Judging.{verdictAt, judge-start, judge-end, judge-bad, judge-refused, judge-more, one-or-none}
 use Rattle.chart_judge.proofs.judge_lines.Statement.{statement}
 use Rattle.chart_judge.proofs.judge_lines.Tie as tie
 

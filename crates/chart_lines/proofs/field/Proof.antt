@@ -2,8 +2,8 @@
 use borrow.Author.Needs.{needs}
 use mathlib.Core.Path.{_≡_, sym, _∙_}
 use denote.Ref.{now}
-use Rattle.chart_lines.specs.Decimal.{numberAt}
-use Rattle.chart_lines.specs.declared.Number.the-variants.{Value}
+use Rattle.chart_numbers.specs.Decimal.{numberAt}
+use Rattle.chart_numbers.specs.declared.Number.the-variants.{Value}
 use Rattle.chart_lines.proofs.Laws.{field-none, field-end, field-other, field-past}
 use Rattle.chart_lines.proofs.field.Statement.{statement}
 use Rattle.chart_lines.proofs.field.Tie as tie

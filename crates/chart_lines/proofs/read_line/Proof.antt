@@ -3,7 +3,7 @@ use borrow.Author.Needs.{needs}
 use mathlib.Core.Path.{_≡_, sym, _∙_}
 use denote.Ref.{now}
 use Rattle.chart_lines.specs.Line.{field, then, lineAt}
-use Rattle.chart_lines.specs.declared.Number.the-variants.{Value}
+use Rattle.chart_numbers.specs.declared.Number.the-variants.{Value}
 use Rattle.chart_lines.proofs.read_line.Statement.{statement}
 use Rattle.chart_lines.proofs.read_line.Tie as tie
 

@@ -3,7 +3,8 @@ use lib.ListN.{length}
 use mathlib.Core.Path.{_≡_, _∙_}
 use native.Mathlib.Omega.{arith}
 use Rattle.chart_rules.specs.Rules.{tolerance}
-use Rattle.chart_rules.proofs.Held.{tolerance-held, fit-at}
+use Rattle.chart_sets.proofs.Soundness.{fit-at}
+use Rattle.chart_rules.proofs.Held.{tolerance-held}
 use borrow.Author.Needs.{needs}
 use Rattle.chart_rules.proofs.tolerance.Statement.{statement}
 use Rattle.chart_rules.proofs.tolerance.Tie as tie

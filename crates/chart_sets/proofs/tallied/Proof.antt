@@ -1,19 +1,61 @@
 -- `chart_sets::tallied` meets its contract.
 use Rattle.chart_sets.specs.declared.Tally.{Tally}
 use Rattle.whole.proofs.ListLaws.{each-at}
-use lib.IntN.{+ℤ-idl, pos, _-ℤ_}
-use Rattle.chart_sets.proofs.Sums.{each-diff, size-facts, each-inside, diff-at, diff-length, step-sum, tally-sum, tally-largest, tally-smallest}
-use mathlib.Core.Path.{_≡_, refl, ap, _∙_}
+use lib.IntN.{ℤ, +ℤ-idl, pos, _-ℤ_}
+use mir.Syntax.{w64}
+use mir.Val.{Fits}
+use Rattle.chart_bounds.proofs.Bounds.{size-facts, each-inside}
+use Rattle.chart_sets.proofs.Sums.{each-diff, diff-at, diff-length, step-sum, tally-sum, tally-largest, tally-smallest}
+use mathlib.Core.Path.{_≡_, refl, sym, ap, subst, _∙_}
 use native.Mathlib.Omega.{arith}
 use Prim.Native.Nat.{ℕ, _+_, _-_, _*_, _/_, _%_, _≤_, _<_}
 use lib.ListN.{length, getD}
-use Rattle.whole.specs.Parts.{Within}
+use Rattle.whole.specs.Parts.{Within, up, down}
 use Rattle.whole.proofs.Read.{back-in}
 use Rattle.whole.proofs.Fold.{Going, going-start, going-step, going-done}
 use Rattle.chart_sets.specs.Sets.{differences}
 use Rattle.chart_sets.specs.Tallies.{stepOf}
+use borrow.Author.Needs.{zero≤}
 use Rattle.chart_sets.proofs.tallied.Statement.{statement}
 use Rattle.chart_sets.proofs.tallied.Tie as tie
+
+-- the pair at k, of at most ten results
+module _ (n k : ℕ) (ten : n ≤ 10) (more : k < n / 2) where
+  first-in : 2 * k < n
+  first-in = omega arith
+
+  second-in : 2 * k + 1 < n
+  second-in = omega arith
+
+  first-fits : Fits w64 (2 * k)
+  first-fits = omega arith
+
+  first-byte : Fits w64 (2 * k * 4)
+  first-byte = omega arith
+
+  second-fits : Fits w64 (2 * k + 1)
+  second-fits = omega arith
+
+  second-byte : Fits w64 ((2 * k + 1) * 4)
+  second-byte = omega arith
+
+  next-fits : Fits w64 (k + 1)
+  next-fits = omega arith
+
+  next-in : k + 1 ≤ n / 2
+  next-in = omega arith
+
+  small-sum : (z : ℤ) → Within (k * 10000) (k * 10000) z → Within 1000000 1000000 z
+  small-sum z w = omega arith
+
+difference-fits : (a b : ℤ) → Within 0 10000 a → Within 0 10000 b → (up a + down b < 2147483648) × (down a + up b ≤ 2147483648)
+difference-fits a b v w = omega arith
+
+half : (n : ℕ) → 2 ≤ n → 0 < n / 2
+half n h = omega arith
+
+no-sum : Within (0 * 10000) (0 * 10000) (pos 0)
+no-sum = omega arith
 
 abbrev Inv-loop : tie.InvT-loop
 Inv-loop numbers count t₀ k₀ t k =
@@ -38,82 +80,44 @@ shared-slice-copy-out-t10 c = omega (arith, sizes (c .before))
 sub-requires : tie.Need-sub-requires Inv-loop μ-loop
 sub-requires c κs =
     let s = c .before .before in
-    let z = sizes s in
     let a = value s 0 in
     let b = value s 1 in
-    let x = back-in a tt tt in
-    let y = back-in b tt tt in
-    omega arith
+    rw ((back-in a tt tt) .is, (back-in b tt tt) .is) (difference-fits _ _ a b)
 
 loop-holds : tie.Need-loop-holds Inv-loop μ-loop
-loop-holds c =
-    let s = c .before .before .before in
-    let z = sizes s in
-    let a = value s 0 in
-    let b = value s 1 in
-    let x = back-in a tt tt in
-    let y = back-in b tt tt in
-    (omega arith, refl, omega arith, going-start _ _ _)
+loop-holds c = (zero≤, refl, no-sum, going-start _ _ _)
 
 mul-t14 : tie.Need-mul-t14 Inv-loop μ-loop
-mul-t14 c =
-    let s = c .before .before .before .before .before in
-    let z = sizes s in
-    omega arith
+mul-t14 c = first-fits (length (c .before .before .before .before .before .args .numbers .now)) (c .before .loop .k) (sizes (c .before .before .before .before .before) .1) (c .loop-test .taken)
 
 mul-t15 : tie.Need-mul-t15 Inv-loop μ-loop
-mul-t15 c =
-    let s = c .before .before .before .before .before in
-    let z = sizes s in
-    omega arith
+mul-t15 c = first-byte (length (c .before .before .before .before .before .args .numbers .now)) (c .before .loop .k) (sizes (c .before .before .before .before .before) .1) (c .loop-test .taken)
 
 shared-slice-copy-out-t17 : tie.Need-shared-slice-copy-out-t17 Inv-loop μ-loop
-shared-slice-copy-out-t17 c =
-    let s = c .before .before .before .before .before in
-    let z = sizes s in
-    omega arith
+shared-slice-copy-out-t17 c = first-in (length (c .before .before .before .before .before .args .numbers .now)) (c .before .loop .k) (sizes (c .before .before .before .before .before) .1) (c .loop-test .taken)
 
 mul-t19 : tie.Need-mul-t19 Inv-loop μ-loop
-mul-t19 c =
-    let s = c .before .before .before .before .before .before in
-    let z = sizes s in
-    omega arith
+mul-t19 c = first-fits (length (c .before .before .before .before .before .before .args .numbers .now)) (c .before .before .loop .k) (sizes (c .before .before .before .before .before .before) .1) (c .before .loop-test .taken)
 
 add-t20 : tie.Need-add-t20 Inv-loop μ-loop
-add-t20 c =
-    let s = c .before .before .before .before .before .before in
-    let z = sizes s in
-    omega arith
+add-t20 c = second-fits (length (c .before .before .before .before .before .before .args .numbers .now)) (c .before .before .loop .k) (sizes (c .before .before .before .before .before .before) .1) (c .before .loop-test .taken)
 
 mul-t21 : tie.Need-mul-t21 Inv-loop μ-loop
-mul-t21 c =
-    let s = c .before .before .before .before .before .before in
-    let z = sizes s in
-    omega arith
+mul-t21 c = second-byte (length (c .before .before .before .before .before .before .args .numbers .now)) (c .before .before .loop .k) (sizes (c .before .before .before .before .before .before) .1) (c .before .loop-test .taken)
 
 shared-slice-copy-out-t23 : tie.Need-shared-slice-copy-out-t23 Inv-loop μ-loop
-shared-slice-copy-out-t23 c =
-    let s = c .before .before .before .before .before .before in
-    let z = sizes s in
-    omega arith
+shared-slice-copy-out-t23 c = second-in (length (c .before .before .before .before .before .before .args .numbers .now)) (c .before .before .loop .k) (sizes (c .before .before .before .before .before .before) .1) (c .before .loop-test .taken)
 
 step-requires : tie.Need-step-requires Inv-loop μ-loop
 step-requires c κs =
     let s = c .before .before .before .before .before .before .before in
-    let z = sizes s in
     let k = c .before .before .before .loop .k in
-    let l = c .before .before .before .loop .inv in
     let a = value s (2 * k) in
     let b = value s (2 * k + 1) in
-    let x = back-in a tt tt in
-    let y = back-in b tt tt in
-    (omega arith, (omega arith, omega arith))
+    (small-sum (length (s .args .numbers .now)) k (sizes s .1) (c .before .before .loop-test .taken) _ (c .before .before .before .loop .inv .2), (rw ((back-in a tt tt) .is) a, rw ((back-in b tt tt) .is) b))
 
 add-k : tie.Need-add-k Inv-loop μ-loop
-add-k c =
-    let s = c .before .before .before .before .before .before .before .before in
-    let z = sizes s in
-    omega arith
+add-k c = next-fits (length (c .before .before .before .before .before .before .before .before .args .numbers .now)) (c .before .before .before .before .loop .k) (sizes (c .before .before .before .before .before .before .before .before) .1) (c .before .before .before .loop-test .taken)
 
 loop-less : tie.Need-loop-less Inv-loop μ-loop
 loop-less c = omega arith
@@ -121,19 +125,17 @@ loop-less c = omega arith
 loop-again : tie.Need-loop-again Inv-loop μ-loop
 loop-again c =
     let s = c .before .before .before .before .before .before .before .before in
-    let z = sizes s in
     let numbers = s .args .numbers .now in
     let k = c .before .before .before .before .loop .k in
     let t = c .before .before .before .before .loop .t in
     let l = c .before .before .before .before .loop .inv in
+    let more : k < length numbers / 2 = c .before .before .before .loop-test .taken in
     let x = back-in (value s (2 * k)) tt tt in
     let y = back-in (value s (2 * k + 1)) tt tt in
-    let more : k < length numbers / 2 = c .before .before .before .loop-test .taken in
     let e : c .step .result ≡ stepOf t (getD (differences numbers) k (pos 0)) =
-    c .step .ensures ∙ ap (stepOf t) ((λ i. x .is i -ℤ y .is i) ∙ diff-at k numbers (omega arith)) in
+    c .step .ensures ∙ ap (stepOf t) ((λ i. x .is i -ℤ y .is i) ∙ diff-at k numbers (second-in (length numbers) k (sizes s .1) more)) in
     let w = each-at 10000 10000 (differences numbers) k (each-diff numbers (each-inside numbers (s .pre .1))) in
-    let n = diff-length numbers in
-    (omega arith, l .1, rw e (step-sum k t _ (l .2) w), rw e (going-step stepOf _ (differences numbers) (pos 0) k t (omega arith) (l .3)))
+    (next-in (length numbers) k (sizes s .1) more, l .1, rw e (step-sum k t _ (l .2) w), rw e (going-step stepOf _ (differences numbers) (pos 0) k t (subst (λ (n : ℕ). k < n) (sym (diff-length numbers)) more) (l .3)))
 
 returns : tie.Need-returns Inv-loop μ-loop
 returns c =
@@ -145,14 +147,14 @@ returns c =
     let l = c .before .loop .inv in
     let x = back-in (value s 0) tt tt in
     let y = back-in (value s 1) tt tt in
-    let n = diff-length numbers in
-    let first = c .before .before .sub .ensures .is ∙ (λ i. x .is i -ℤ y .is i) ∙ diff-at 0 numbers (omega arith) in
+    let some : 0 < length ds = subst (λ (m : ℕ). 0 < m) (sym (diff-length numbers)) (half (length numbers) (z .0)) in
+    let first = c .before .before .sub .ensures .is ∙ (λ i. x .is i -ℤ y .is i) ∙ diff-at 0 numbers (z .0) in
     let done : length numbers / 2 ≤ k = c .loop-test .left in
-    let g = going-done stepOf _ ds k (c .before .loop .t) (omega arith) (l .3) in
+    let g = going-done stepOf _ ds k (c .before .loop .t) (subst (λ (m : ℕ). m ≤ k) (sym (diff-length numbers)) done) (l .3) in
     record {
       sum = ap (λ (t : Tally). t .sum .z) g ∙ tally-sum _ ds ∙ +ℤ-idl _;
-      high = ap (λ (t : Tally). t .high .z) g ∙ tally-largest _ ds (omega arith) first;
-      low = ap (λ (t : Tally). t .low .z) g ∙ tally-smallest _ ds (omega arith) first;
+      high = ap (λ (t : Tally). t .high .z) g ∙ tally-largest _ ds some first;
+      low = ap (λ (t : Tally). t .low .z) g ∙ tally-smallest _ ds some first;
     }
 
 pub tallied-spec : {M : Type 1} → statement M

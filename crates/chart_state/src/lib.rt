@@ -1,0 +1,94 @@
+// A chart: its soundness, a fresh one, and the chart after a set.
+use chart_sets::ChartSet;
+use whole::flags;
+ghost use mathlib.Core.Path.{_≡_};
+ghost use mathlib.Core.List.{_∷_};
+ghost use Prim.Native.Nat.{_+_, _≤_, min};
+ghost use lib.ListN.{take};
+ghost use Rattle.whole.specs.Lists.{all};
+ghost use Rattle.chart_sets.specs.Soundness.{soundSet};
+ghost use Rattle.chart_state.specs.Charts.{sound as soundOf, freshChart, nextChart};
+
+// A chart: its row, its last week, and its held sets, newest first, in the first `held` places.
+pub struct Chart {
+    pub row: usize,
+    pub week: u32,
+    pub held: usize,
+    pub sets: [ChartSet; 4],
+}
+
+// ---- soundness
+
+// The first `held` of the sets are sound.
+fn all_sound(sets: [ChartSet; 4], held: usize) -> bool
+    ensures { λ r. ⌜ r ≡ all soundSet (take held sets) ⌝ }
+{
+    let a = flags::either(held < 1, chart_sets::sound_set(sets[0]));
+    let b = flags::either(held < 2, chart_sets::sound_set(sets[1]));
+    let c = flags::either(held < 3, chart_sets::sound_set(sets[2]));
+    let d = flags::either(held < 4, chart_sets::sound_set(sets[3]));
+    flags::both(a, flags::both(b, flags::both(c, d)))
+}
+
+pub fn sound(chart: Chart) -> bool
+    ensures { λ r. ⌜ r ≡ soundOf chart ⌝ }
+{
+    let sets = chart.sets;
+    let shape = flags::both(
+        flags::both(chart.row < 4, chart.week <= 9999),
+        chart.held <= 4,
+    );
+    flags::both(shape, all_sound(sets, chart.held))
+}
+
+// ---- a fresh chart
+
+pub fn fresh_chart(row: usize) -> Chart
+    ensures { λ r. ⌜ r ≡ freshChart row ⌝ }
+{
+    let blank = ChartSet {
+        count: 0,
+        sum: 0,
+        range: 0,
+    };
+    Chart {
+        row,
+        week: 0,
+        held: 0,
+        sets: [blank, blank, blank, blank],
+    }
+}
+
+// ---- the chart after a set
+
+// A new set in front of three.
+fn shifted(s: ChartSet, sets: [ChartSet; 4]) -> [ChartSet; 4]
+    ensures { λ r. ⌜ r ≡ s ∷ take 3 sets ⌝ }
+{
+    [s, sets[0], sets[1], sets[2]]
+}
+
+// One more, and four at most.
+fn one_more(held: usize) -> usize
+    requires { ⌜ held ≤ 4 ⌝ }
+    ensures { λ r. ⌜ r ≡ min 4 (held + 1) ⌝ }
+{
+    if held < 4 { held + 1 } else { 4 }
+}
+
+// The chart with one set more, of which the newest four are held.
+pub fn next_chart(chart: Chart, week: u32, s: ChartSet) -> Chart
+    requires { ⌜ chart .held ≤ 4 ⌝ }
+    ensures { λ r. ⌜ r ≡ nextChart chart week s ⌝ }
+{
+    let old = chart.sets;
+    let sets = shifted(s, old);
+    let held = one_more(chart.held);
+    let row = chart.row;
+    Chart {
+        row,
+        week,
+        held,
+        sets,
+    }
+}

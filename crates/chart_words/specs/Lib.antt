@@ -1,0 +1,3 @@
+-- A chart in a caller's array.
+pub mod ChartWords
+pub mod ChartLaws

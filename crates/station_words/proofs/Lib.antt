@@ -1,0 +1,4 @@
+mod Phases
+pub mod Lengths
+pub mod Inverse
+pub mod HandedBack

@@ -1,0 +1,3 @@
+-- A station in a caller's array.
+pub mod StationWords
+pub mod StationLaws
