@@ -2,8 +2,8 @@
 //!
 //! `cargo run --release --example bench`. Each measurement is repeated; printed are the median, the
 //! spread (largest minus smallest time, of the median) and the ratio of the times, by the medians
-//! and by the fastest runs. A station's calls are measured a third time, with the model behind the
-//! core's interface (its state in an array of `int32_t`): that ratio shows what the interface costs.
+//! and by the fastest runs. A station's calls and readings are measured a third time, with the model
+//! behind the core's interface (arrays of `int32_t`): that ratio leaves out what the interface costs.
 //! The model is measured twice in every run, so that the last column shows the machine's noise.
 
 use std::hint::black_box;
@@ -419,6 +419,21 @@ fn bench_openings(rules: &Rules) {
     );
 }
 
+/// The model's reading behind the core's interface.
+#[inline(never)]
+fn kept_reading(float: f32, result: &mut [i32]) -> i32 {
+    if result.is_empty() {
+        return -2;
+    }
+    match model::reading(float.to_bits()) {
+        Ok(hundredths) => {
+            result[0] = hundredths as i32;
+            100
+        }
+        Err(number) => i32::from(number),
+    }
+}
+
 fn bench_readings() {
     let mut rng = Rng(23);
     let float = |_| f32::from_bits(rng.range(0x3000_0000, 0x42C8_0000) as u32);
@@ -441,12 +456,23 @@ fn bench_readings() {
         }
         sum
     };
+    let kept = || {
+        let mut sum = 0;
+        for _ in 0..64 {
+            for &float in black_box(&floats) {
+                let mut hundredths = [0];
+                assert_eq!(kept_reading(float, &mut hundredths), 100);
+                sum += hundredths[0] as u64;
+            }
+        }
+        sum
+    };
     side_by_side(
         "readings",
         64 * CALLS,
         &mut || timed(core),
         &mut || timed(plain),
-        None,
+        Some(&mut || timed(kept)),
     );
 }
 

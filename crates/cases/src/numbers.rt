@@ -1,10 +1,12 @@
 // Each number of refusal once, 0 to 14 in their order.
 use super::calls;
+use super::say;
 use rules::Basis;
 use rules::Scan;
 use rules::Station;
 
 pub(crate) fn stations() {
+    say::heading(b"numbers 0 to 2: a station of row 2; row 2; day 100000");
     let s = station::open(0).station;
     let lines = s.lines;
     let unsound = Station {
@@ -12,35 +14,41 @@ pub(crate) fn stations() {
         day: 0,
         lines,
     };
-    calls::repair(b"a station of row 2", unsound, 1);
-    calls::open(b"row 2", 2);
-    calls::repair(b"day 100000", s, 100000);
+    calls::repair(unsound, 1);
+    calls::open(2);
+    calls::repair(s, 100000);
 }
 
 pub(crate) fn sizes() {
+    say::heading(b"numbers 3 and 4: line 3 of corn; 36 numbers for corn");
     let s = station::open(1).station;
-    calls::corn_sheet(b"line 3 of corn", s, 1, 3, 1000);
-    calls::alike(b"36 numbers for corn", s, 1, 1000, 1000);
+    calls::corn_sheet(s, 1, 3, 1000);
+    calls::alike(s, 1, 1000, 1000);
 }
 
 pub(crate) fn sheet_numbers() {
+    say::heading(b"numbers 5 to 7: a number 10001; a third missing; an again pair missing");
     let s = station::open(0).station;
-    calls::but_last(b"a number 10001", s, 1, 1000, [10001, 10001, -1]);
-    calls::but_last(b"a third missing", s, 1, 1000, [1000, 1031, -1]);
-    calls::but_last(b"an again pair missing", s, 1, 1000, [1051, 1051, -1]);
+    calls::but_last(s, 1, 1000, [10001, 10001, -1]);
+    calls::but_last(s, 1, 1000, [1000, 1031, -1]);
+    calls::but_last(s, 1, 1000, [1051, 1051, -1]);
 }
 
 pub(crate) fn scans() -> Station {
-    let due = calls::alike(b"new, S 132", station::open(0).station, 1, 1000, 1011);
-    calls::market(b"fault 0", due, 1, Scan::Fault(0), Basis::Dry);
-    calls::market(b"above 100", due, 1, Scan::Wheat(100.5), Basis::Dry);
-    calls::market(b"basis -1", due, 1, Scan::Wheat(12.0), Basis::Specified(-1));
-    calls::market(b"h -11", due, 1, Scan::Wheat(0.0), Basis::Dry)
+    say::heading(
+        b"numbers 8 to 11 on a line that an S of 132 left check due: fault 0; above 100; basis -1; h -11",
+    );
+    let due = calls::alike(station::open(0).station, 1, 1000, 1011);
+    calls::market(due, 1, Scan::Fault(0), Basis::Dry);
+    calls::market(due, 1, Scan::Wheat(100.5), Basis::Dry);
+    calls::market(due, 1, Scan::Wheat(12.0), Basis::Specified(-1));
+    calls::market(due, 1, Scan::Wheat(0.0), Basis::Dry)
 }
 
 pub(crate) fn lines(due: Station) {
-    calls::market(b"check due", due, 1, Scan::Wheat(12.0), Basis::Dry);
-    let open = calls::alike(b"check", due, 1, 1000, 1011);
-    calls::market(b"set 8 days old", open, 9, Scan::Wheat(12.0), Basis::Dry);
-    calls::market(b"h 8801 dry", open, 1, Scan::Wheat(88.12), Basis::Dry);
+    say::heading(b"numbers 12 to 14: check due; checked; a set 8 days old; h 8801 dry");
+    calls::market(due, 1, Scan::Wheat(12.0), Basis::Dry);
+    let open = calls::alike(due, 1, 1000, 1011);
+    calls::market(open, 9, Scan::Wheat(12.0), Basis::Dry);
+    calls::market(open, 1, Scan::Wheat(88.12), Basis::Dry);
 }

@@ -1,4 +1,4 @@
-// An answer as a line of text: a label, then the paper's number or values. All of a line after its label comes from the answer.
+// An answer as a line of text: the call's day and line, then the paper's number or values. All of it comes from the call and its answer.
 use libc::STDOUT_FILENO;
 use rules::Certificate;
 use rules::MarketAnswer;
@@ -65,32 +65,46 @@ fn certificate(c: Certificate) {
     text(b"\n");
 }
 
-pub(crate) fn opening(label: &[u8], a: OpenAnswer) {
-    text(label);
+// What the calls below it are about.
+pub(crate) fn heading(t: &[u8]) {
+    text(t);
+    text(b"\n");
+}
+
+// The day and the line that a call names.
+fn asked(day: u32, line: usize) {
+    natural(b"  day ", day);
+    text(b" line ");
+    io::print_decimal(STDOUT_FILENO, line as u64);
+}
+
+pub(crate) fn opening(row: usize, a: OpenAnswer) {
+    text(b"  row ");
+    io::print_decimal(STDOUT_FILENO, row as u64);
     match a {
         OpenAnswer::Opened => text(b": opened\n"),
         OpenAnswer::Refused(r) => refusal(r),
     }
 }
 
-pub(crate) fn sheet(label: &[u8], a: SheetAnswer) {
-    text(label);
+pub(crate) fn sheet(day: u32, line: usize, a: SheetAnswer) {
+    asked(day, line);
     match a {
         SheetAnswer::Accepted(o) => outcome(o),
         SheetAnswer::Refused(r) => refusal(r),
     }
 }
 
-pub(crate) fn repair(label: &[u8], a: RepairAnswer) {
-    text(label);
+pub(crate) fn repair(day: u32, a: RepairAnswer) {
+    natural(b"  day ", day);
     match a {
         RepairAnswer::Repaired => text(b": repaired\n"),
         RepairAnswer::Refused(r) => refusal(r),
     }
 }
 
-pub(crate) fn market(label: &[u8], a: MarketAnswer) {
-    text(label);
+pub(crate) fn market(day: u32, line: usize, a: MarketAnswer) {
+    asked(day, line);
     match a {
         MarketAnswer::Certified(c) => certificate(c),
         MarketAnswer::Refused(r) => refusal(r),

@@ -83,7 +83,7 @@ fn finish_market(done: MarketResult, state: &mut [i32], result: &mut [i32]) -> i
     let answer = done.answer;
     match answer {
         MarketAnswer::Certified(c) => {
-            station_words::put_station(state, after);
+            station_encoding::put_station(state, after);
             put_certificate(result, c);
             100
         }

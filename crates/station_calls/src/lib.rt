@@ -33,7 +33,7 @@ pub fn open(row: usize, state: &mut [i32]) -> i32
     let opened = station::open(row);
     let fresh = opened.station;
     let answer = opened.answer;
-    station_words::put_station(state, fresh);
+    station_encoding::put_station(state, fresh);
     open_code(answer)
 }
 
@@ -46,7 +46,7 @@ fn put_outcome(result: &mut [i32], o: Outcome) -> usize
     let phase = o.phase;
     let a = places::put(result, 0, whole::wrap(o.sum));
     let b = places::put(result, a, places::word(o.count));
-    let c = places::put(result, b, station_words::phase_code(phase));
+    let c = places::put(result, b, station_encoding::phase_code(phase));
     places::put(result, c, whole::wrap(o.change))
 }
 
@@ -58,7 +58,7 @@ fn finish_sheet(done: SheetResult, state: &mut [i32], result: &mut [i32]) -> i32
     let answer = done.answer;
     match answer {
         SheetAnswer::Accepted(o) => {
-            station_words::put_station(state, after);
+            station_encoding::put_station(state, after);
             put_outcome(result, o);
             100
         }
@@ -92,7 +92,7 @@ fn finish_repair(done: RepairResult, state: &mut [i32]) -> i32
     let answer = done.answer;
     match answer {
         RepairAnswer::Repaired => {
-            station_words::put_station(state, after);
+            station_encoding::put_station(state, after);
             100
         }
         RepairAnswer::Refused(r) => refusals::number(r),

@@ -2,10 +2,10 @@ use mathlib.Core.Path.{ap}
 use mathlib.Core.List.{[], _∷_}
 use lib.IntN.{ℤ}
 use Rattle.decimal.proofs.Put.{put-then, put-is}
 use Rattle.station_words.specs.StationWords.{stationWords}
 use borrow.Author.Needs.{needs}
-use Rattle.station_words.proofs.put_station.Statement.{statement}
-use Rattle.station_words.proofs.put_station.Tie as tie
+use Rattle.station_encoding.proofs.put_station.Statement.{statement}
+use Rattle.station_encoding.proofs.put_station.Tie as tie
 
 wide-word-requires : tie.Need-wide-word-requires
 wide-word-requires c κs = search needs

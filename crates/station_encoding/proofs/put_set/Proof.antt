@@ -7,8 +7,8 @@ use mathlib.Core.List.{[], _∷_}
 use lib.IntN.{ℤ}
 use Rattle.decimal.proofs.Put.{put-then, put-is}
 use borrow.Author.Needs.{needs}
-use Rattle.station_words.proofs.put_set.Statement.{statement}
-use Rattle.station_words.proofs.put_set.Tie as tie
+use Rattle.station_encoding.proofs.put_set.Statement.{statement}
+use Rattle.station_encoding.proofs.put_set.Tie as tie
 
 word-requires : tie.Need-word-requires
 word-requires c κs = search needs

@@ -4,12 +4,12 @@ use native.Mathlib.Omega.{arith}
 use lib.ListN.{length}
 use Rattle.rules.specs.Held.{freshLine}
 use Rattle.decimal.proofs.Put.{put-then, put-is, put-length}
 use Rattle.station_words.specs.StationWords.{lineWords, linesWords}
 use Rattle.places.proofs.Words.{getD-any}
 use Rattle.station_words.proofs.Lengths.{line-places}
 use borrow.Author.Needs.{needs}
-use Rattle.station_words.proofs.put_lines.Statement.{statement}
-use Rattle.station_words.proofs.put_lines.Tie as tie
+use Rattle.station_encoding.proofs.put_lines.Statement.{statement}
+use Rattle.station_encoding.proofs.put_lines.Tie as tie
 
 array-copy-out-put-line : tie.Need-array-copy-out-put-line
 array-copy-out-put-line c = search needs

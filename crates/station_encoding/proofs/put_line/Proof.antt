@@ -5,10 +5,10 @@ use mir.Syntax.{w32}
 use mir.Val.{SFits}
 use Rattle.whole.proofs.Read.{back}
 use Rattle.decimal.proofs.Put.{put-then, put-is}
 use Rattle.station_words.specs.StationWords.{lineWords}
 use borrow.Author.Needs.{needs}
-use Rattle.station_words.proofs.put_line.Statement.{statement}
-use Rattle.station_words.proofs.put_line.Tie as tie
+use Rattle.station_encoding.proofs.put_line.Statement.{statement}
+use Rattle.station_encoding.proofs.put_line.Tie as tie
 
 wrap-requires : tie.Need-wrap-requires
 wrap-requires c κs = search needs

@@ -1,8 +1,8 @@
 use Rattle.decimal.proofs.Put.{put-then}
 use Rattle.station_words.specs.StationWords.{pastWords}
 use borrow.Author.Needs.{needs}
-use Rattle.station_words.proofs.put_sets.Statement.{statement}
-use Rattle.station_words.proofs.put_sets.Tie as tie
+use Rattle.station_encoding.proofs.put_sets.Statement.{statement}
+use Rattle.station_encoding.proofs.put_sets.Tie as tie
 
 array-copy-out-put-set : tie.Need-array-copy-out-put-set
 array-copy-out-put-set c = search needs
