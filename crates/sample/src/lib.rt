@@ -79,7 +79,10 @@ fn again_due(limits: Limits, intercept: Int, round: bool, s: SixNumbers) -> bool
     requires { ⌜ (Fair limits (intercept .z)) × (Measured (sampleOf s)) ⌝ }
     ensures { λ r. ⌜ r ≡ againDue limits (intercept .z) round (sampleOf s) ⌝ }
 {
-    flags::both(round, first_deviates(limits, intercept, s))
+    if !round {
+        return false;
+    }
+    first_deviates(limits, intercept, s)
 }
 
 // Number 7, of one sample.
@@ -114,8 +117,8 @@ pub fn is_kept(limits: Limits, intercept: Int, round: bool, s: SixNumbers) -> bo
     requires { ⌜ (Fair limits (intercept .z)) × (Measured (sampleOf s)) ⌝ }
     ensures { λ r. ⌜ r ≡ kept limits (intercept .z) round (sampleOf s) ⌝ }
 {
-    flags::opposite(flags::both(
-        again_due(limits, intercept, round, s),
-        is_deviating(limits, final_deviation(limits, intercept, round, s)),
-    ))
+    if !again_due(limits, intercept, round, s) {
+        return true;
+    }
+    flags::opposite(is_deviating(limits, final_deviation(limits, intercept, round, s)))
 }
