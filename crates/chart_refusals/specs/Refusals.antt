@@ -1,7 +1,8 @@
 -- Paper 01, "Refused calls": the numbers of a chart call's refusals, and which is answered.
 use Prim.Native.Nat.{ℕ}
-use mathlib.Core.Bool.{Bool, cond}
-use mathlib.Core.List.{List, [], _∷_}
+use mathlib.Core.Bool.{Bool}
+use mathlib.Core.List.{List}
+use Rattle.whole.specs.Lists.{firstApplying}
 use Rattle.chart_refusals.specs.declared.Refusal.{Refusal}
 use Rattle.chart_refusals.specs.declared.Refusal.the-variants.{UnsoundChart, UnknownRow, BadWeek, BadSize, BadResult, ShortBuffer}
 use Rattle.chart_refusals.specs.declared.Judgement.{Judgement}
@@ -23,5 +24,4 @@ pub record Check : Type 0 where
 
 -- the lowest applying number is answered: the first that applies of checks in the order of their numbers
 abbrev pub firstRefusal : List Check → Judgement
-firstRefusal [] = Fine
-firstRefusal (c ∷ cs) = cond (c .applies) (Refused (c .refusal)) (firstRefusal cs)
+firstRefusal = firstApplying Fine (λ c. c .applies) (λ c. Refused (c .refusal))

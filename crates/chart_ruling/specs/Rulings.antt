@@ -1,10 +1,11 @@
 -- Paper 01, "Control charts" and "Refused calls": a value line judged after the line before it, numbers 18, 19 and 21 with the text line.
 use Prim.Native.Nat.{ℕ, _+_}
 use mathlib.Core.Path.{_≡_}
-use mathlib.Core.Bool.{Bool, true, false, not, _&&_, _||_, cond}
+use mathlib.Core.Bool.{Bool, true, false, not, _&&_, _||_}
 use mathlib.Core.List.{List, [], _∷_}
 use lib.IntN.{pos}
 use lib.Dec.{leb, eqb}
+use Rattle.whole.specs.Lists.{firstApplying}
 use Rattle.chart_lines.specs.declared.ValueLine.{ValueLine}
 use Rattle.chart_bounds.specs.Bounds.{badResult, badWeek}
 use Rattle.chart_ruling.specs.declared.TextRefusal.{TextRefusal}
@@ -20,8 +21,7 @@ pub record Check : Type 0 where
 
 -- the first that applies
 abbrev pub firstRefusal : List Check → Ruling
-firstRefusal [] = R.Fine
-firstRefusal (c ∷ cs) = cond (c .applies) (R.Refused (c .refusal) (c .line)) (firstRefusal cs)
+firstRefusal = firstApplying R.Fine (λ c. c .applies) (λ c. R.Refused (c .refusal) (c .line))
 
 -- ---- a line after the line before it, which has this week and this sample number (both 0 where there is none)
 

@@ -20,7 +20,7 @@ use Rattle.places.specs.Places.{word, isNatural, natural, place}
 use Rattle.chart_words.specs.ChartWords.{chartSetWords, setsWords, chartWords, chartSetAt, chartAt, isChartSet, isChart}
 use Rattle.places.specs.Places.{Fits, Places}
 use Rattle.chart_words.specs.ChartLaws.{ChartSetFits, ChartFits, ChartInverse}
-use Rattle.places.proofs.Words.{natural-word, is-word, four-of, both, places-from, first-places, word-natural, natural-fits}
+use Rattle.places.proofs.Words.{natural-word, is-word, four-of, both, places-from, first-places, natural-forth, natural-fits}
 
 -- ---- decoding what was encoded
 
@@ -57,14 +57,11 @@ chart-is c rest f =
 -- ---- encoding what was decoded
 
 module _ (words : List ℤ) (ok : Places words) where
-  natural-forth : (i : ℕ) → isNatural (place words i) ≡ true → word (natural (place words i)) ≡ place words i
-  natural-forth i e = word-natural (place words i) (ok i) e
-
   set-forth : (i : ℕ) → isChartSet words i ≡ true → chartSetWords (chartSetAt words i) ≡ place words i ∷ place words (i + 1) ∷ place words (i + 2) ∷ []
   unfolding isChartSet chartSetAt
   set-forth i e =
       let b = and-both (isNatural (place words i)) (isNatural (place words (i + 2))) e in
-      λ j. natural-forth i (b .0) j ∷ place words (i + 1) ∷ natural-forth (i + 2) (b .1) j ∷ []
+      λ j. natural-forth words ok i (b .0) j ∷ place words (i + 1) ∷ natural-forth words ok (i + 2) (b .1) j ∷ []
 
   chart-forth : 15 ≤ length words → isChart words ≡ true → chartWords (chartAt words) ≡ take 15 words
   unfolding isChart chartAt chartWords setsWords places-from
@@ -76,7 +73,7 @@ module _ (words : List ℤ) (ok : Places words) where
       let sets = and-both (isChartSet words 3 && isChartSet words 6) (isChartSet words 9 && isChartSet words 12) (all .1) in
       let first = and-both (isChartSet words 3) (isChartSet words 6) (sets .0) in
       let last = and-both (isChartSet words 9) (isChartSet words 12) (sets .1) in
-      (λ j. natural-forth 0 (one .0) j ∷ natural-forth 1 (one .1) j ∷ natural-forth 2 (two .1) j
+      (λ j. natural-forth words ok 0 (one .0) j ∷ natural-forth words ok 1 (one .1) j ∷ natural-forth words ok 2 (two .1) j
       ∷ set-forth 3 (first .0) j ++ set-forth 6 (first .1) j ++ set-forth 9 (last .0) j ++ set-forth 12 (last .1) j)
       ∙ sym (first-places words 15 0 h)
 

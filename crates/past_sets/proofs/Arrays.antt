@@ -1,7 +1,7 @@
--- A pass over the first n elements of an array of k: a step, and the end. An array's element doesn't hang on what stands past its end.
-use mathlib.Core.Path.{_≡_, refl, sym, ap, _∙_}
-use mathlib.Core.List.{List, [], _∷_}
-use Prim.Native.Nat.{ℕ, zero, suc, _+_, _≤_, _<_}
+-- A pass over the first n elements of an array of k: a step, and the end.
+use mathlib.Core.Path.{_≡_, sym, ap, _∙_}
+use mathlib.Core.List.{List}
+use Prim.Native.Nat.{ℕ, _+_, _≤_, _<_}
 use native.Mathlib.Omega.{arith}
 use lib.ListN.{length, take, getD, length-take}
 use lib.Seq.{getD-take}
@@ -14,8 +14,3 @@ module _ {A S : Type 0} (n : ℕ) (l : List A) (f : S → A → S) (s₀ : S) (i
 
   pub first-done : n ≤ i → s ≡ fold f s₀ (take n l)
   first-done h = going-done f s₀ (take n l) i s (simp length-take (omega arith)) going
-
-pub getD-any : {A : Type 0} (l : List A) (i : ℕ) (d e : A) → i < length l → getD l i d ≡ getD l i e
-getD-any [] i d e h = absurd (omega arith)
-getD-any (x ∷ l) zero d e h = refl
-getD-any (x ∷ l) (suc i) d e h = getD-any l i d e (omega arith)

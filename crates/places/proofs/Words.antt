@@ -2,13 +2,13 @@
 use mathlib.Core.Path.{_≡_, refl, sym, ap, _∙_}
 use mathlib.Core.Bool.{Bool, true, _&&_, true≢false}
 use mathlib.Core.List.{List, [], _∷_}
-use Prim.Native.Nat.{ℕ, zero, suc, _+_, _<_, _≤_}
+use Prim.Native.Nat.{ℕ, zero, suc, _+_, _≤_}
 use native.Mathlib.Omega.{arith}
 use lib.IntN.{ℤ, pos, negsuc}
 use lib.ListN.{length, take, drop, getD}
 use lib.Seq.{drop-cons}
 use Rattle.whole.specs.Parts.{Within}
-use Rattle.places.specs.Places.{word, isNatural, natural, place, Fits}
+use Rattle.places.specs.Places.{word, isNatural, natural, place, Fits, Places}
 use Rattle.places.proofs.Places.{word-held}
 
 -- ---- a number
@@ -19,13 +19,16 @@ natural-word n h = ap natural (sym (word-held n h))
 pub is-word : (n : ℕ) → Fits n → isNatural (word n) ≡ true
 is-word n h = ap isNatural (sym (word-held n h))
 
-pub word-natural : (z : ℤ) → Within 2147483648 2147483647 z → isNatural z ≡ true → word (natural z) ≡ z
+word-natural : (z : ℤ) → Within 2147483648 2147483647 z → isNatural z ≡ true → word (natural z) ≡ z
 word-natural (pos n) w e = sym (word-held n (omega arith))
 word-natural (negsuc n) w e = absurd (true≢false (sym e))
 
 pub natural-fits : (z : ℤ) → Within 2147483648 2147483647 z → Fits (natural z)
 natural-fits (pos n) w = omega arith
 natural-fits (negsuc n) w = omega arith
+
+pub natural-forth : (words : List ℤ) → Places words → (i : ℕ) → isNatural (place words i) ≡ true → word (natural (place words i)) ≡ place words i
+natural-forth words ok i e = word-natural (place words i) (ok i) e
 
 -- ---- the places of a list
 
@@ -52,8 +55,3 @@ four-of d (a ∷ b ∷ c ∷ f ∷ g ∷ l) e = absurd (omega arith)
 
 pub both : {a b : Bool} → a ≡ true → b ≡ true → (a && b) ≡ true
 both p q = λ i. p i && q i
-
-pub getD-any : {A : Type 0} (l : List A) (i : ℕ) (d e : A) → i < length l → getD l i d ≡ getD l i e
-getD-any [] i d e h = absurd (omega arith)
-getD-any (x ∷ l) zero d e h = refl
-getD-any (x ∷ l) (suc i) d e h = getD-any l i d e (omega arith)

@@ -1,9 +1,10 @@
 -- Paper 01, "Refused calls": which number is answered, and the number of each refusal of a station's calls.
 use Prim.Native.Nat.{ℕ}
-use mathlib.Core.Bool.{Bool, cond}
+use mathlib.Core.Bool.{Bool}
 use mathlib.Core.List.{List, [], _∷_}
 use mathlib.Core.Option.{Option, none, some}
 use lib.ListN.{getD}
+use Rattle.whole.specs.Lists.{firstApplying}
 use Rattle.rules.specs.declared.Refusal.{Refusal}
 use Rattle.rules.specs.declared.Refusal.the-variants.{UnsoundStation, UnknownRow, BadDay, UnknownLine, SheetSize, SheetNumber, ThirdReading, AgainPair, WrongScan, BadFloat, BadBasis, BadValue, NotOpen, OldSet, TooHigh}
 
@@ -14,8 +15,7 @@ pub record Check : Type 0 where
 
 -- "The lowest applying number is answered": the first of checks that stand in the order of their numbers
 abbrev pub firstNumber : List Check → Option ℕ
-firstNumber [] = none
-firstNumber (c ∷ cs) = cond (c .applies) (some (c .number)) (firstNumber cs)
+firstNumber = firstApplying none (λ c. c .applies) (λ c. some (c .number))
 
 -- each refusal's number
 abbrev pub numberOf : Refusal → ℕ

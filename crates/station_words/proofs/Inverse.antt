@@ -20,7 +20,7 @@ use Rattle.station_words.specs.StationWords.{phaseCode, setWords, pastWo
 use Rattle.places.specs.Places.{Fits, Places}
 use Rattle.station_words.specs.StationLaws.{SetFits, LineFits, StationFits}
 use Rattle.whole.proofs.Tests.{and-both}
-use Rattle.places.proofs.Words.{natural-word, is-word, word-natural, places-from, first-places, four-of, both}
+use Rattle.places.proofs.Words.{natural-word, is-word, natural-forth, places-from, first-places, four-of, both}
 
 -- ---- a number, a phase, an array
 
@@ -121,14 +121,11 @@ code-phase (pos (suc (suc (suc n)))) e = absurd (true≢false (sym e))
 code-phase (negsuc n) e = absurd (true≢false (sym e))
 
 module _ (words : List ℤ) (ok : Places words) where
-  natural-forth : (i : ℕ) → isNatural (place words i) ≡ true → word (natural (place words i)) ≡ place words i
-  natural-forth i e = word-natural (place words i) (ok i) e
-
   set-forth : (i : ℕ) → isSet words i ≡ true → setWords (setAt words i) ≡ place words i ∷ place words (i + 1) ∷ place words (i + 2) ∷ []
   unfolding isSet setAt
   set-forth i e =
       let b = and-both (isNatural (place words i)) (isNatural (place words (i + 2))) e in
-      λ j. natural-forth i (b .0) j ∷ place words (i + 1) ∷ natural-forth (i + 2) (b .1) j ∷ []
+      λ j. natural-forth words ok i (b .0) j ∷ place words (i + 1) ∷ natural-forth words ok (i + 2) (b .1) j ∷ []
 
   -- a line's places
   abbrev linePlaces : ℕ → List ℤ
@@ -150,7 +147,7 @@ module _ (words : List ℤ) (ok : Places words) where
       let sets = and-both (isSet words (i + 3) && isSet words (i + 3 + 3)) (isSet words (i + 3 + 6) && isSet words (i + 3 + 9)) (all .1) in
       let first = and-both (isSet words (i + 3)) (isSet words (i + 3 + 3)) (sets .0) in
       let last = and-both (isSet words (i + 3 + 6)) (isSet words (i + 3 + 9)) (sets .1) in
-      λ j. place words i ∷ code-phase (place words (i + 1)) (head .0) j ∷ natural-forth (i + 2) (head .1) j
+      λ j. place words i ∷ code-phase (place words (i + 1)) (head .0) j ∷ natural-forth words ok (i + 2) (head .1) j
       ∷ set-forth (i + 3) (first .0) j ++ set-forth (i + 6) (moved i 3 (first .1)) j ++ set-forth (i + 9) (moved i 6 (last .0)) j ++ set-forth (i + 12) (moved i 9 (last .1)) j
 
 pub station-forth : (words : List ℤ) → Places words → 47 ≤ length words → isStation words ≡ true → stationWords (stationAt words) ≡ take 47 words

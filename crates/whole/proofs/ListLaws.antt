@@ -246,3 +246,10 @@ module _ {A : Type 0} (f : A → ℤ) where
 
   pub smallest-fold : (d : A) (l : List A) → 0 < length l → fold smallerBy (f (getD l 0 d)) l ≡ smallest (map f l)
   smallest-fold d l h = ext-fold smallerOf smaller-comm smaller-swaps smaller-same smallest (λ x. refl) (λ x y l. refl) f d l h
+
+-- ---- an element within a list, whatever stands for one past its end
+
+pub getD-any : {A : Type 0} (l : List A) (i : ℕ) (d e : A) → i < length l → getD l i d ≡ getD l i e
+getD-any [] i d e h = absurd (omega arith)
+getD-any (x ∷ l) zero d e h = refl
+getD-any (x ∷ l) (suc i) d e h = getD-any l i d e (omega arith)

@@ -1,4 +1,4 @@
--- Tests over a list, and the sum, the largest and the smallest of a list of whole numbers.
+-- Tests over a list, the first that applies, and the sum, the largest and the smallest of a list of whole numbers.
 use mathlib.Core.Bool.{Bool, true, false, not, _&&_, _||_, cond, Bool·beq}
 use mathlib.Core.List.{List, [], _∷_}
 use lib.IntN.{ℤ, pos, _+ℤ_}
@@ -18,6 +18,12 @@ module _ {A : Type 0} where
   abbrev pub all : (A → Bool) → List A → Bool
   all p [] = true
   all p (x ∷ xs) = p x && all p xs
+
+module _ {A B : Type 0} where
+  -- the answer of the first element that applies; this one where none does
+  abbrev pub firstApplying : B → (A → Bool) → (A → B) → List A → B
+  firstApplying fine applies answer [] = fine
+  firstApplying fine applies answer (x ∷ xs) = cond (applies x) (answer x) (firstApplying fine applies answer xs)
 
 -- the sum of a list
 abbrev pub total : List ℤ → ℤ

@@ -2,7 +2,7 @@ use mathlib.Core.Path.{_≡_}
 use native.Mathlib.Omega.{arith}
 use lib.ListN.{length}
 use Rattle.rules.specs.Held.{freshLine}
-use Rattle.past_sets.proofs.Arrays.{getD-any}
+use Rattle.whole.proofs.ListLaws.{getD-any}
 use Rattle.lines.proofs.LineLaws.{blankLine}
 use borrow.Author.Needs.{needs}
 use Rattle.lines.proofs.line_at.Statement.{statement}

@@ -5,7 +5,7 @@ use lib.ListN.{length}
 use Rattle.rules.specs.Held.{freshLine}
 use Rattle.decimal.proofs.Put.{put-then, put-is, put-length}
 use Rattle.station_words.specs.StationWords.{lineWords, linesWords}
-use Rattle.places.proofs.Words.{getD-any}
+use Rattle.whole.proofs.ListLaws.{getD-any}
 use Rattle.station_words.proofs.Lengths.{line-places}
 use borrow.Author.Needs.{needs}
 use Rattle.station_encoding.proofs.put_lines.Statement.{statement}
