@@ -1,56 +1,83 @@
-/* A season's first days of a wheat station, and one chart set. Prints what the calls answer. */
+/* A wheat station's first days, a chart set and a chart text. Prints what the calls answer. */
 #include "grain.h"
 
+#include <inttypes.h>
 #include <stdio.h>
+#include <string.h>
 
-/* Six samples of baseline 1000: five with these two results, and the last with its own. */
-static void sheet_numbers(int32_t numbers[36], int32_t results, int32_t last)
+static void refused(const char *call, uint32_t number)
 {
+    printf("%s refused (%" PRIu32 "): %s\n", call, number, grain_message(number));
+}
+
+/* Six samples of baseline 10.00 percent, measured twice with the same result; the last has a result of its own. */
+static void sheet(struct grain_station *station, uint32_t day, int32_t result, int32_t last)
+{
+    int32_t numbers[GRAIN_WHEAT_SHEET];
     for (int i = 0; i < 6; i++) {
-        int32_t value = i == 5 ? last : results;
-        int32_t sample[6] = {1000, value, value, -1, -1, -1};
-        for (int j = 0; j < 6; j++)
-            numbers[6 * i + j] = sample[j];
+        int32_t *sample = numbers + GRAIN_SAMPLE_NUMBERS * i;
+        sample[GRAIN_BASELINE] = 1000;
+        sample[GRAIN_FIRST] = i == 5 ? last : result;
+        sample[GRAIN_SECOND] = i == 5 ? last : result;
+        sample[GRAIN_THIRD] = GRAIN_NOT_MEASURED;
+        sample[GRAIN_AGAIN_FIRST] = GRAIN_NOT_MEASURED;
+        sample[GRAIN_AGAIN_SECOND] = GRAIN_NOT_MEASURED;
     }
+    printf("day %" PRIu32 ": ", day);
+    struct grain_outcome o = grain_sheet(station, day, GRAIN_LINE_PROTEIN, numbers, GRAIN_WHEAT_SHEET);
+    if (!o.accepted) {
+        refused("sheet", o.number);
+        return;
+    }
+    static const char *const phases[] = {"new", "open", "check due"};
+    printf("sheet: S %" PRId32 ", N %" PRIu32 ", intercept changed by %" PRId32 ", %s\n", o.sum, o.count, o.change,
+           phases[o.phase]);
 }
 
-static void sheet(int32_t station[GRAIN_STATION], uint32_t day, int32_t results, int32_t last)
+static void market(struct grain_station *station, uint32_t day, float percent)
 {
-    int32_t numbers[36], outcome[GRAIN_OUTCOME];
-    sheet_numbers(numbers, results, last);
-    int32_t code = grain_sheet(station, GRAIN_STATION, day, 0, numbers, 36, outcome, GRAIN_OUTCOME);
-    if (code == GRAIN_OK)
-        printf("day %u: sheet S %d N %d phase %d change %d\n", day, outcome[0], outcome[1], outcome[2], outcome[3]);
-    else
-        printf("day %u: sheet refused %d\n", day, code);
-}
-
-static void market(int32_t station[GRAIN_STATION], uint32_t day, float percent, uint32_t basis)
-{
-    int32_t c[GRAIN_CERTIFICATE];
-    int32_t code = grain_market(station, GRAIN_STATION, day, 0, GRAIN_WHEAT, percent, 0, 0, basis, 0, c, GRAIN_CERTIFICATE);
-    if (code == GRAIN_OK)
-        printf("day %u: certificate day %d intercept %d basis %d figures %d %d\n", day, c[0], c[1], c[2], c[3], c[4]);
-    else
-        printf("day %u: market test refused %d\n", day, code);
+    printf("day %" PRIu32 ": ", day);
+    struct grain_certificate c =
+        grain_market(station, day, GRAIN_LINE_PROTEIN, GRAIN_WHEAT, percent, 0, 0, GRAIN_DRY, 0);
+    if (!c.accepted) {
+        refused("market test", c.number);
+        return;
+    }
+    printf("certificate: %" PRIu32 ".%" PRIu32 " percent, dry %" PRIu32 ".%" PRIu32 "; sheet of day %" PRIu32
+           ", intercept %" PRId32 "\n",
+           c.figure / 10, c.figure % 10, c.converted / 10, c.converted % 10, c.day, c.intercept);
 }
 
 int main(void)
 {
-    int32_t station[GRAIN_STATION];
-    printf("open: %d\n", grain_open(0, station, GRAIN_STATION));
-    sheet(station, 1, 1010, 1011);            /* 10.17 hundredths high: adjusted by 10 */
-    market(station, 1, 13.54f, GRAIN_DRY);    /* a check is due: 12 */
-    sheet(station, 2, 1010, 1011);            /* the check is met */
-    market(station, 3, 13.54f, GRAIN_DRY);
-    printf("repair: %d\n", grain_repair(station, GRAIN_STATION, 4));
-    market(station, 4, 13.54f, GRAIN_DRY);    /* new: 12 */
+    struct grain_station station;
+    if (!grain_open(&station, GRAIN_ROW_WHEAT).accepted)
+        return 1;
+    sheet(&station, 1, 1010, 1011); /* 10.17 hundredths high: adjusted by 10 */
+    market(&station, 1, 13.54f);    /* the check is due */
+    sheet(&station, 2, 1010, 1011); /* the check is met */
+    market(&station, 3, 13.54f);
+    sheet(&station, 2, 1010, 1011); /* a day before the last */
+    if (!grain_repair(&station, 4).accepted)
+        return 1;
+    market(&station, 4, 13.54f); /* new again */
 
-    int32_t chart[GRAIN_CHART], values[GRAIN_VALUES];
-    int32_t pairs[10] = {1315, 1307, 1018, 1054, 1447, 1479, 1256, 1223, 1857, 1877};
-    uint8_t line[40];
-    grain_chart_open(0, chart, GRAIN_CHART);
-    int32_t code = grain_chart_set(chart, GRAIN_CHART, 26, pairs, 10, values, GRAIN_VALUES, line, sizeof line);
-    printf("chart set: %d\n%.*s", code, values[9], (const char *)line);
+    struct grain_chart chart;
+    const int32_t pairs[10] = {1315, 1307, 1018, 1054, 1447, 1479, 1256, 1223, 1857, 1877};
+    uint8_t line[GRAIN_LINE_BYTES];
+    if (!grain_chart_open(&chart, GRAIN_CHART_WHEAT_PROTEIN).accepted)
+        return 1;
+    struct grain_charted set = grain_chart_set(&chart, 26, pairs, 10, line, sizeof line);
+    if (!set.accepted)
+        return 1;
+    printf("chart set: %.*s", (int)set.length, (const char *)line);
+
+    static const char text[] = "week sample original monitor\n26 1 1315 1307\n26 2 1018\n";
+    static uint8_t out[GRAIN_OUTPUT_BYTES];
+    struct grain_written written = grain_chart_text((const uint8_t *)text, strlen(text), out, sizeof out);
+    if (!written.accepted) {
+        printf("text line %" PRIu32 ": ", written.line);
+        refused("chart text", written.number);
+    }
     return 0;
 }

@@ -1,86 +1,411 @@
-/* The grain measuring core from C: link target/staticlib/libabi.a (rt staticlib abi).
+/* The measuring core of a grain laboratory service: analyser readings, reference sheets and intercepts, market tests,
+ * control charts. For C11, C++11 and later. Link libabi.a; nothing else is needed.
  *
- * State lives in the caller's arrays of int32_t. Whatever stands there is answered: an array whose first places are no
- * encoding of a station (a chart) is number 0. Arrays may be longer than needed; only the first places are read or written.
+ * State. A station and a chart are plain structs of int32_t in the caller's memory, opened by a call and then changed in
+ * place. They hold no pointers: copy, store and compare them as you like, and store GRAIN_LAYOUT beside them. Whatever
+ * comes back from storage may be handed in: a state with a field out of its bounds, or sheets out of the order of their
+ * days, is refused by number 0. Lines that the row doesn't use and sets beyond `held` may hold anything; they are not
+ * looked at.
  *
- * Every function returns GRAIN_OK, or the number of paper 01 by which the call is refused (0 to 22), or a negative code for
- * misuse that paper 01 has no number for. Misuse is looked at first, in the order of its codes. A refusal and a misuse write
- * nothing, with two exceptions: a refused opening (number 1) writes a fresh state of row 0, and a refused chart text writes
- * its text line into place.
- */
+ * Answers. Every call answers a struct by value. `accepted` is 1, or 0 for a refused call; `number` is then the reason
+ * (GRAIN_REFUSED_...), and the lowest number that applies is answered. All other fields are 0 where a call is refused,
+ * except a text's `line`. A refused call writes nothing at all: no field of the state, no byte of a buffer. There is one
+ * exception: a refused opening leaves a fresh state of row 0, every field 0.
+ *
+ * Units. "Hundredths" are whole hundredths of a percent (1354 is 13.54 percent), "tenths" whole tenths of a percent. Days
+ * are whole numbers from 0 to 99999 that never go back, weeks from 1 to 9999 that rise, both counted as the laboratory
+ * likes.
+ *
+ * Pointers. A station or chart must not be NULL. Any other array may be NULL if its length is 0: a sheet without numbers is
+ * refused by 4, a set without numbers by 20, an empty text by 16, and a buffer of length 0 by 22, each where no lower
+ * number applies. Arrays handed to one call must not overlap each other or the state (GRAIN_RESTRICT).
+ *
+ * Threads. There is no global state, and nothing is allocated: calls on different stations and charts may run on any
+ * threads at once. Calls on the same station or chart must not. */
 #ifndef GRAIN_H
 #define GRAIN_H
 
 #include <stddef.h>
 #include <stdint.h>
 
+#define GRAIN_VERSION "0.2.0"
+
+/* Changes whenever struct grain_station or struct grain_chart does: a stored state of another layout is not to be used. */
+#define GRAIN_LAYOUT 1
+
+#ifdef __cplusplus
+#define GRAIN_STATIC_ASSERT(test, text) static_assert(test, text)
+#if defined(__GNUC__) || defined(__clang__) || defined(_MSC_VER)
+#define GRAIN_RESTRICT __restrict
+#else
+#define GRAIN_RESTRICT
+#endif
+#else
+#define GRAIN_STATIC_ASSERT(test, text) _Static_assert(test, text)
+#define GRAIN_RESTRICT restrict
+#endif
+
+/* An answer that nobody looks at is a mistake: a warning where compilers know one. */
+#if defined(__cplusplus) && __cplusplus >= 201703L
+#define GRAIN_NODISCARD [[nodiscard]]
+#elif defined(__GNUC__) || defined(__clang__)
+#define GRAIN_NODISCARD __attribute__((warn_unused_result))
+#else
+#define GRAIN_NODISCARD
+#endif
+
 #ifdef __cplusplus
 extern "C" {
 #endif
 
-#define GRAIN_OK 100
-#define GRAIN_SHORT_STATE (-1)  /* a state array shorter than GRAIN_STATION or GRAIN_CHART */
-#define GRAIN_SHORT_RESULT (-2) /* a result array shorter than its places */
-#define GRAIN_BAD_KIND (-3)     /* a kind of basis that there isn't */
+/* ---- Stations ---- */
 
-/* A station: row, day, then three lines of 15 places each: intercept, phase, held, then four past sets of 3 places each,
- * newest first: day, S, N. A negative row, day, held, set's day or N, or a phase that there isn't, is no encoding. */
-#define GRAIN_STATION 47
-#define GRAIN_NEW 0
-#define GRAIN_OPEN 1
-#define GRAIN_CHECK_DUE 2
+/* Product rows. */
+#define GRAIN_ROW_WHEAT 0 /* line 0 protein; 6 samples a sheet; standard moisture basis 1200 hundredths */
+#define GRAIN_ROW_CORN 1  /* line 0 protein, 1 oil, 2 starch; 4 samples a sheet; standard moisture basis 0 */
 
-/* A chart: row, last week, held, then four sets of 3 places each, newest first: count, sum, range.
- * Only a sum may be negative. */
-#define GRAIN_CHART 15
+/* Lines of corn. Wheat has line 0 only. */
+#define GRAIN_LINE_PROTEIN 0
+#define GRAIN_LINE_OIL 1
+#define GRAIN_LINE_STARCH 2
 
-/* Result places. */
-#define GRAIN_OUTCOME 4     /* S, N, phase after the sheet, intercept change */
-#define GRAIN_CERTIFICATE 5 /* day of the newest set, intercept, B, figure of h in tenths, figure at B in tenths */
-#define GRAIN_VALUES 10     /* week, n, sum, range, al, tl, run, ral, rtl (1 or 0 each), length of the line */
+/* Phases of a line. Only an open line tests market grain. */
+#define GRAIN_NEW 0       /* no accepted sheet yet, or repaired since */
+#define GRAIN_OPEN 1      /* the newest sheet met every average due */
+#define GRAIN_CHECK_DUE 2 /* adjusted or shut: the next sheet is the check */
 
-/* Kinds of scan: any other number is a fault. */
-#define GRAIN_WHEAT 0
-#define GRAIN_CORN 1
-#define GRAIN_FAULT 2
+/* The result of an accepted reference sheet. Its average deviation is sum / count hundredths. */
+struct grain_past_set {
+    int32_t day;   /* the sheet's day */
+    int32_t sum;   /* S: the sum of the kept samples' deviations, hundredths */
+    int32_t count; /* N: twice the number of samples kept (two results each) */
+};
 
-/* Kinds of basis. */
-#define GRAIN_STANDARD 0
-#define GRAIN_DRY 1
-#define GRAIN_SPECIFIED 2
-#define GRAIN_AS_IS 3
+/* One constituent of the grain. */
+struct grain_line {
+    int32_t intercept;             /* added to every reading, hundredths, -1000 to 1000 */
+    int32_t phase;                 /* GRAIN_NEW, GRAIN_OPEN or GRAIN_CHECK_DUE */
+    int32_t held;                  /* how many of past are in use: 1 to 4 on an open line, else 0 */
+    struct grain_past_set past[4]; /* the newest sheets that met, newest first */
+};
 
-/* A float in percent as whole hundredths. Refused: 9. */
-int32_t grain_reading(float x, int32_t *hundredths, size_t hundredths_len);
+struct grain_station {
+    int32_t row;                /* GRAIN_ROW_WHEAT or GRAIN_ROW_CORN */
+    int32_t day;                /* the day of the last accepted call, 0 if there was none */
+    struct grain_line lines[3]; /* wheat uses the first */
+};
 
-/* A fresh station of a product row (0 wheat, 1 corn). Refused: 1. */
-int32_t grain_open(uint64_t row, int32_t *station, size_t station_len);
+/* A sheet's numbers: six for each sample, sample after sample, in this order, in hundredths. Each lies in 0 to 10000; a
+ * third and an again pair that were not measured are GRAIN_NOT_MEASURED.
+ *
+ * A third is due where first and second differ by more than the pair limit, and must not be given elsewhere. The closest
+ * two of a sample's results are its pair; its deviation is their sum plus twice the line's intercept minus twice the
+ * baseline. A sample deviates if this is beyond twice the sample limit. If one does, and the sheet's largest minus its
+ * smallest deviation is above twice the range limit, an again pair is due for each deviating sample, and must not be given
+ * elsewhere; a sample that still deviates by its again pair is dropped.
+ *
+ *     limits, hundredths    pair  sample  range
+ *     wheat protein           30      40     50
+ *     corn protein            30      40     50
+ *     corn oil                40      50     60
+ *     corn starch             90      80    150
+ */
+#define GRAIN_BASELINE 0    /* the sample's reference value */
+#define GRAIN_FIRST 1       /* results by the analyser, without intercept */
+#define GRAIN_SECOND 2
+#define GRAIN_THIRD 3
+#define GRAIN_AGAIN_FIRST 4
+#define GRAIN_AGAIN_SECOND 5
+#define GRAIN_SAMPLE_NUMBERS 6
+#define GRAIN_NOT_MEASURED (-1)
+#define GRAIN_WHEAT_SHEET 36 /* numbers of a sheet: six samples */
+#define GRAIN_CORN_SHEET 24  /* four samples */
 
-/* A reference sheet: six numbers for each of the row's samples. Refused: 0, 2 to 7. */
-int32_t grain_sheet(int32_t *station, size_t station_len, uint32_t day, uint64_t line, const int32_t *numbers,
-                    size_t numbers_len, int32_t *outcome, size_t outcome_len);
+/* Kinds of scan. */
+#define GRAIN_WHEAT 0 /* first is protein; second and third are not looked at */
+#define GRAIN_CORN 1  /* first is protein, second oil, third starch; only the asked line's is looked at */
+#define GRAIN_FAULT 2 /* the analyser reported a fault, as does every larger number: refused by 8 */
 
-/* A repair or new slope. Refused: 0, 2. */
-int32_t grain_repair(int32_t *station, size_t station_len, uint32_t day);
+/* Kinds of moisture basis. A kind that there isn't is refused by 10. */
+#define GRAIN_STANDARD 0  /* the grain's standard basis; basis is not looked at */
+#define GRAIN_DRY 1       /* 0; basis is not looked at */
+#define GRAIN_SPECIFIED 2 /* basis, hundredths, 0 to 5000 */
+#define GRAIN_AS_IS 3     /* basis is the official moisture, hundredths, 0 to 5000 */
 
-/* A market test. Wheat looks at first; corn has protein, oil, starch. basis is looked at for specified and as-is.
- * Refused: 0, 2, 3, 8 to 14. */
-int32_t grain_market(int32_t *station, size_t station_len, uint32_t day, uint64_t line, uint32_t scan_kind, float first,
-                     float second, float third, uint32_t basis_kind, int32_t basis, int32_t *certificate,
-                     size_t certificate_len);
+/* ---- Charts ---- */
 
-/* A fresh chart of a chart row (0 wheat protein, 1 barley protein, 2 soybean protein, 3 soybean oil). Refused: 1. */
-int32_t grain_chart_open(uint64_t row, int32_t *chart, size_t chart_len);
+/* Chart rows. */
+#define GRAIN_CHART_WHEAT_PROTEIN 0
+#define GRAIN_CHART_BARLEY_PROTEIN 1
+#define GRAIN_CHART_SOYBEAN_PROTEIN 2
+#define GRAIN_CHART_SOYBEAN_OIL 3
 
-/* One set: original and monitor of one to five pairs in turn. Its output line is written from the start of line, which has
- * at least 40 bytes. Refused: 0, 19 to 22. */
-int32_t grain_chart_set(int32_t *chart, size_t chart_len, uint32_t week, const int32_t *numbers, size_t numbers_len,
-                        int32_t *values, size_t values_len, uint8_t *line, size_t line_len);
+/* A charted set. Its average is sum / count hundredths. */
+struct grain_held_set {
+    int32_t count; /* pairs, 1 to 5 */
+    int32_t sum;   /* of original minus monitor, hundredths */
+    int32_t range; /* largest minus smallest difference, hundredths */
+};
 
-/* A whole chart text, charted as wheat. place[0] is the length written to out, or on refusal the text line; 400000 bytes
- * are enough for any text. Refused: 15 to 19, 21, 22. */
-int32_t grain_chart_text(const uint8_t *text, size_t text_len, uint8_t *out, size_t out_len, int32_t *place,
-                         size_t place_len);
+struct grain_chart {
+    int32_t row;                   /* GRAIN_CHART_... */
+    int32_t week;                  /* of the set charted last, 0 if there is none */
+    int32_t held;                  /* how many of sets are in use, 0 to 4 */
+    struct grain_held_set sets[4]; /* the newest sets, newest first */
+};
+
+/* A buffer for an output line needs this many bytes, whatever the line's length. */
+#define GRAIN_LINE_BYTES 40
+/* A buffer for a text's output needs GRAIN_LINE_BYTES for each line to be written, its names line too: one line for each
+ * week of the text. This many bytes are enough for any text. */
+#define GRAIN_OUTPUT_BYTES 400000
+/* The longest text. */
+#define GRAIN_TEXT_BYTES 65536
+
+/* ---- Answers ---- */
+
+struct grain_answer {
+    uint32_t accepted; /* 1, or 0 if refused */
+    uint32_t number;   /* GRAIN_REFUSED_... if refused, else 0 */
+};
+
+struct grain_value {
+    uint32_t accepted, number;
+    uint32_t hundredths; /* 0 to 10000 */
+};
+
+struct grain_outcome {
+    uint32_t accepted, number;
+    int32_t sum;    /* S: the sum of the kept samples' deviations, hundredths */
+    uint32_t count; /* N: twice the number of samples kept; 0 if none was */
+    uint32_t phase; /* the line's phase after the sheet */
+    int32_t change; /* of the line's intercept, hundredths, 0 if none */
+};
+
+struct grain_certificate {
+    uint32_t accepted, number;
+    uint32_t day;       /* of the line's newest sheet */
+    int32_t intercept;  /* hundredths */
+    int32_t basis;      /* the moisture basis B, hundredths */
+    uint32_t figure;    /* the reading with its intercept (that is, at the standard basis), tenths */
+    uint32_t converted; /* the same at B, tenths; rounded once, not from figure */
+};
+
+struct grain_charted {
+    uint32_t accepted, number;
+    uint32_t week;
+    uint32_t count;  /* pairs */
+    int32_t sum;     /* of original minus monitor, hundredths */
+    uint32_t range;  /* hundredths */
+    uint32_t al;     /* 1 or 0: the average is at or beyond the absolute limit */
+    uint32_t tl;     /* the average and the one before are at or beyond the tolerance limit, on one side */
+    uint32_t run;    /* this and three of the previous four averages: on one side, their mean beyond the run limit */
+    uint32_t ral;    /* the range is at or above its absolute limit */
+    uint32_t rtl;    /* the range and the one before are at or above their tolerance limit */
+    uint32_t length; /* of the output line, its line feed included */
+};
+
+struct grain_written {
+    uint32_t accepted, number;
+    uint32_t line;   /* the text line that is refused (the names line is 1), 0 if none is meant or it is accepted */
+    uint32_t length; /* bytes written, 0 if refused */
+};
+
+/* ---- Refusals ---- */
+
+/* Each number's sentence stands in grain_message below. */
+#define GRAIN_REFUSED_UNSOUND 0
+#define GRAIN_REFUSED_ROW 1
+#define GRAIN_REFUSED_DAY 2
+#define GRAIN_REFUSED_LINE 3
+#define GRAIN_REFUSED_SHEET_LENGTH 4
+#define GRAIN_REFUSED_SHEET_NUMBER 5
+#define GRAIN_REFUSED_THIRD 6
+#define GRAIN_REFUSED_AGAIN 7
+#define GRAIN_REFUSED_SCAN 8
+#define GRAIN_REFUSED_FLOAT 9
+#define GRAIN_REFUSED_BASIS 10
+#define GRAIN_REFUSED_CORRECTED 11
+#define GRAIN_REFUSED_NOT_OPEN 12
+#define GRAIN_REFUSED_SET_TOO_OLD 13
+#define GRAIN_REFUSED_AT_BASIS 14
+#define GRAIN_REFUSED_TEXT_TOO_LONG 15
+#define GRAIN_REFUSED_NAMES_LINE 16
+#define GRAIN_REFUSED_VALUE_LINE 17
+#define GRAIN_REFUSED_SAMPLE_NUMBER 18
+#define GRAIN_REFUSED_WEEK 19
+#define GRAIN_REFUSED_PAIR_COUNT 20
+#define GRAIN_REFUSED_RESULT 21
+#define GRAIN_REFUSED_BUFFER 22
+
+/* What is wrong, in a technician's words. */
+static inline const char *grain_message(uint32_t number)
+{
+    switch (number) {
+    case GRAIN_REFUSED_UNSOUND:
+        return "the stored station or chart is damaged; restore it from a copy or open a new one";
+    case GRAIN_REFUSED_ROW:
+        return "there is no product or chart with this row number";
+    case GRAIN_REFUSED_DAY:
+        return "the day lies before the station's last accepted call or is above 99999";
+    case GRAIN_REFUSED_LINE:
+        return "this grain is not measured for that constituent";
+    case GRAIN_REFUSED_SHEET_LENGTH:
+        return "the reference sheet must have six numbers for every sample of this grain";
+    case GRAIN_REFUSED_SHEET_NUMBER:
+        return "a number on the reference sheet lies outside 0.00 to 100.00 percent, is missing, or only one half of an "
+               "again pair is filled in";
+    case GRAIN_REFUSED_THIRD:
+        return "a third measurement is missing where first and second are too far apart, or is filled in where they are "
+               "not";
+    case GRAIN_REFUSED_AGAIN:
+        return "an again pair is missing for a sample that must be measured again, or is filled in where none is due";
+    case GRAIN_REFUSED_SCAN:
+        return "the analyser reported a fault, or the scan is of another grain";
+    case GRAIN_REFUSED_FLOAT:
+        return "the analyser's value is not a number, below 0 or above 100 percent";
+    case GRAIN_REFUSED_BASIS:
+        return "the moisture basis lies outside 0.00 to 50.00 percent or is of no known kind";
+    case GRAIN_REFUSED_CORRECTED:
+        return "the reading with its intercept lies outside 0.00 to 100.00 percent";
+    case GRAIN_REFUSED_NOT_OPEN:
+        return "the line is not open; enter a reference sheet that meets its averages first";
+    case GRAIN_REFUSED_SET_TOO_OLD:
+        return "the line's newest reference sheet is more than 7 days old; enter a new one first";
+    case GRAIN_REFUSED_AT_BASIS:
+        return "the value at this moisture basis is above 100 percent";
+    case GRAIN_REFUSED_TEXT_TOO_LONG:
+        return "the chart text is longer than 65536 bytes";
+    case GRAIN_REFUSED_NAMES_LINE:
+        return "the chart text must begin with the line `week sample original monitor`";
+    case GRAIN_REFUSED_VALUE_LINE:
+        return "the line must be four whole numbers of at most five digits without leading zeros, with single spaces "
+               "between them and a line feed after them";
+    case GRAIN_REFUSED_SAMPLE_NUMBER:
+        return "the sample number is neither the next of its week (up to 5) nor 1 of another week";
+    case GRAIN_REFUSED_WEEK:
+        return "the week is not later than the chart's last week or is above 9999";
+    case GRAIN_REFUSED_PAIR_COUNT:
+        return "a set must have one to five pairs of original and monitor result";
+    case GRAIN_REFUSED_RESULT:
+        return "an original or monitor result lies outside 0.00 to 100.00 percent";
+    case GRAIN_REFUSED_BUFFER:
+        return "the output buffer has fewer than 40 bytes for each line";
+    default:
+        return "there is no refusal with this number";
+    }
+}
+
+/* ---- Calls ---- */
+
+/* The whole hundredth nearest to an analyser's value in percent, an exact half going up. Refused by 9. */
+GRAIN_NODISCARD struct grain_value grain_reading(float percent);
+
+/* Makes *station a fresh station of a product row, whatever stood there. Refused by 1: then it is one of row 0. */
+GRAIN_NODISCARD struct grain_answer grain_open(struct grain_station *station, uint64_t row);
+
+/* Enters a reference sheet for a line; changes the station's day and that line. Refused by 0, 2 to 7. */
+GRAIN_NODISCARD struct grain_outcome grain_sheet(struct grain_station *GRAIN_RESTRICT station, uint32_t day, uint64_t line,
+                                                 const int32_t *GRAIN_RESTRICT numbers, size_t numbers_len);
+
+/* Enters a repair or a new slope: every line's past sheets go, open lines become new, a check that is due stays due,
+ * intercepts stay. Refused by 0, 2. */
+GRAIN_NODISCARD struct grain_answer grain_repair(struct grain_station *station, uint32_t day);
+
+/* Tests market grain on a line; changes the station's day only. The floats are in percent. Refused by 0, 2, 3, 8 to 14. */
+GRAIN_NODISCARD struct grain_certificate grain_market(struct grain_station *station, uint32_t day, uint64_t line,
+                                                      uint32_t scan_kind, float first, float second, float third,
+                                                      uint32_t basis_kind, int32_t basis);
+
+/* Makes *chart a fresh chart of a chart row, whatever stood there. Refused by 1: then it is one of row 0. */
+GRAIN_NODISCARD struct grain_answer grain_chart_open(struct grain_chart *chart, uint64_t row);
+
+/* Charts a week's set. numbers: original and monitor of one to five pairs in turn, hundredths, 0 to 10000. The output line
+ * (`26 5 -47 69 0 0 0 1 0` and a line feed, no NUL) is written from the start of line, and no byte after it.
+ * Refused by 0, 19 to 22. */
+GRAIN_NODISCARD struct grain_charted grain_chart_set(struct grain_chart *GRAIN_RESTRICT chart, uint32_t week,
+                                                     const int32_t *GRAIN_RESTRICT numbers, size_t numbers_len,
+                                                     uint8_t *GRAIN_RESTRICT line, size_t line_len);
+
+/* Charts a whole text as wheat protein on a fresh chart. The text is a names line `week sample original monitor`, then a
+ * line for each pair: week, number of the sample in its week from 1, original, monitor, whole numbers with single spaces
+ * between them and a line feed after them. The output is a names line and one line for each week; no byte after it is
+ * written. The text's lines are judged in turn: the first bad one is answered. Refused by 15 to 19, 21, 22. */
+GRAIN_NODISCARD struct grain_written grain_chart_text(const uint8_t *GRAIN_RESTRICT text, size_t text_len,
+                                                      uint8_t *GRAIN_RESTRICT out, size_t out_len);
+
+/* ---- Layout, as the library has it ---- */
+
+#define GRAIN_SIZE(type, size) GRAIN_STATIC_ASSERT(sizeof(struct type) == (size), "size of " #type)
+#define GRAIN_AT(type, field, offset) \
+    GRAIN_STATIC_ASSERT(offsetof(struct type, field) == (offset), "offset of " #type "." #field)
+
+GRAIN_STATIC_ASSERT(sizeof(float) == 4, "size of float");
+GRAIN_SIZE(grain_past_set, 12);
+GRAIN_AT(grain_past_set, day, 0);
+GRAIN_AT(grain_past_set, sum, 4);
+GRAIN_AT(grain_past_set, count, 8);
+GRAIN_SIZE(grain_line, 60);
+GRAIN_AT(grain_line, intercept, 0);
+GRAIN_AT(grain_line, phase, 4);
+GRAIN_AT(grain_line, held, 8);
+GRAIN_AT(grain_line, past, 12);
+GRAIN_SIZE(grain_station, 188);
+GRAIN_AT(grain_station, row, 0);
+GRAIN_AT(grain_station, day, 4);
+GRAIN_AT(grain_station, lines, 8);
+GRAIN_SIZE(grain_held_set, 12);
+GRAIN_AT(grain_held_set, count, 0);
+GRAIN_AT(grain_held_set, sum, 4);
+GRAIN_AT(grain_held_set, range, 8);
+GRAIN_SIZE(grain_chart, 60);
+GRAIN_AT(grain_chart, row, 0);
+GRAIN_AT(grain_chart, week, 4);
+GRAIN_AT(grain_chart, held, 8);
+GRAIN_AT(grain_chart, sets, 12);
+GRAIN_SIZE(grain_answer, 8);
+GRAIN_AT(grain_answer, accepted, 0);
+GRAIN_AT(grain_answer, number, 4);
+GRAIN_SIZE(grain_value, 12);
+GRAIN_AT(grain_value, accepted, 0);
+GRAIN_AT(grain_value, number, 4);
+GRAIN_AT(grain_value, hundredths, 8);
+GRAIN_SIZE(grain_outcome, 24);
+GRAIN_AT(grain_outcome, accepted, 0);
+GRAIN_AT(grain_outcome, number, 4);
+GRAIN_AT(grain_outcome, sum, 8);
+GRAIN_AT(grain_outcome, count, 12);
+GRAIN_AT(grain_outcome, phase, 16);
+GRAIN_AT(grain_outcome, change, 20);
+GRAIN_SIZE(grain_certificate, 28);
+GRAIN_AT(grain_certificate, accepted, 0);
+GRAIN_AT(grain_certificate, number, 4);
+GRAIN_AT(grain_certificate, day, 8);
+GRAIN_AT(grain_certificate, intercept, 12);
+GRAIN_AT(grain_certificate, basis, 16);
+GRAIN_AT(grain_certificate, figure, 20);
+GRAIN_AT(grain_certificate, converted, 24);
+GRAIN_SIZE(grain_charted, 48);
+GRAIN_AT(grain_charted, accepted, 0);
+GRAIN_AT(grain_charted, number, 4);
+GRAIN_AT(grain_charted, week, 8);
+GRAIN_AT(grain_charted, count, 12);
+GRAIN_AT(grain_charted, sum, 16);
+GRAIN_AT(grain_charted, range, 20);
+GRAIN_AT(grain_charted, al, 24);
+GRAIN_AT(grain_charted, tl, 28);
+GRAIN_AT(grain_charted, run, 32);
+GRAIN_AT(grain_charted, ral, 36);
+GRAIN_AT(grain_charted, rtl, 40);
+GRAIN_AT(grain_charted, length, 44);
+GRAIN_SIZE(grain_written, 16);
+GRAIN_AT(grain_written, accepted, 0);
+GRAIN_AT(grain_written, number, 4);
+GRAIN_AT(grain_written, line, 8);
+GRAIN_AT(grain_written, length, 12);
+
+#undef GRAIN_SIZE
+#undef GRAIN_AT
 
 #ifdef __cplusplus
 }

@@ -5,11 +5,12 @@ use std::fmt;
 
 use crate::ffi;
 use crate::refusal::{Refusal, answer};
+use crate::store::{self, RestoreError};
 
 /// A control chart: its row, its last week and its newest sets, at most four.
 ///
-/// The state is an array of 15 numbers that may be stored ([`Chart::places`]) and taken up again
-/// ([`Chart::from_places`]). A refused call leaves it as it was.
+/// The state is 15 numbers, which may be stored ([`Chart::to_bytes`]) and taken up again
+/// ([`Chart::from_bytes`]). A refused call leaves it as it was.
 ///
 /// ```
 /// use grain::Chart;
@@ -24,24 +25,30 @@ use crate::refusal::{Refusal, answer};
 /// # Ok::<(), grain::Refusal>(())
 /// ```
 #[derive(Clone, Debug, PartialEq, Eq, Hash)]
+#[repr(transparent)]
 pub struct Chart {
-    places: [i32; ffi::CHART],
+    state: ffi::Chart,
 }
 
 /// What a charted set gave.
 #[derive(Clone, Copy, Debug, PartialEq, Eq, Hash)]
 pub struct ChartValues {
-    pub week: i32,
+    pub week: u32,
     /// The number of pairs.
-    pub count: i32,
+    pub count: u32,
     /// The sum of original minus monitor, in hundredths of a percent.
     pub sum: i32,
     /// The largest minus the smallest difference, in hundredths of a percent.
-    pub range: i32,
+    pub range: u32,
+    /// The average is at or beyond the absolute limit.
     pub average_absolute: bool,
+    /// The average and the one before are at or beyond the tolerance limit on one side.
     pub average_tolerance: bool,
+    /// This and three of the previous four averages lie on one side, their mean beyond the run limit.
     pub run: bool,
+    /// The range is at or above its absolute limit.
     pub range_absolute: bool,
+    /// The range and the one before are at or above their tolerance limit.
     pub range_tolerance: bool,
     /// The length of the output line, its line feed included.
     pub length: usize,
@@ -59,7 +66,7 @@ pub struct ChartValues {
 #[derive(Clone, Copy, Debug, PartialEq, Eq, Hash)]
 pub struct TextRefusal {
     pub refusal: Refusal,
-    pub line: i32,
+    pub line: u32,
 }
 
 impl fmt::Display for TextRefusal {
@@ -82,33 +89,58 @@ impl Chart {
     /// The bytes that a buffer for an output line must have.
     pub const LINE: usize = 40;
 
+    /// The bytes of a stored chart.
+    pub const BYTES: usize = 4 + 4 * ffi::CHART;
+
     /// A fresh chart of a chart row.
     pub fn open(row: u64) -> Result<Chart, Refusal> {
-        let mut places = [0; ffi::CHART];
-        // SAFETY: the array is lent for the call with its length.
-        let code = unsafe { ffi::grain_chart_open(row, places.as_mut_ptr(), places.len()) };
-        answer(code).map(|()| Chart { places })
+        let mut state = ffi::Chart::default();
+        // SAFETY: the chart is lent for the call.
+        let said = unsafe { ffi::grain_chart_open(&mut state, row) };
+        answer(said.accepted, said.number).map(|()| Chart { state })
     }
 
-    /// Takes up a stored chart. Any numbers may be given: what is no sound chart is refused by
+    /// The chart to be stored: the layout's number and the 15 numbers, little-endian.
+    pub fn to_bytes(&self) -> [u8; Chart::BYTES] {
+        store::stored(&self.places())
+    }
+
+    /// Takes up a stored chart. Numbers that are no sound chart are taken up as well, and refused by
     /// every call ([`Refusal::Unsound`]).
-    pub fn from_places(places: [i32; ffi::CHART]) -> Chart {
-        Chart { places }
+    ///
+    /// ```
+    /// use grain::{Chart, RestoreError};
+    ///
+    /// let chart = Chart::open(Chart::SOYBEAN_OIL).unwrap();
+    /// let bytes = chart.to_bytes();
+    /// assert_eq!(Chart::from_bytes(&bytes)?, chart);
+    /// # Ok::<(), RestoreError>(())
+    /// ```
+    pub fn from_bytes(bytes: &[u8]) -> Result<Chart, RestoreError> {
+        store::restored(bytes).map(Chart::from_places)
     }
 
-    /// The chart's 15 numbers, to be stored.
-    pub fn places(&self) -> &[i32; ffi::CHART] {
-        &self.places
+    /// The chart of 15 numbers. Any may be given: what is no sound chart is refused by every call
+    /// ([`Refusal::Unsound`]).
+    pub fn from_places(places: [i32; ffi::CHART]) -> Chart {
+        Chart {
+            state: ffi::Chart::of(&places),
+        }
+    }
+
+    /// The chart's 15 numbers: row, last week, held, then four sets of count, sum and range.
+    pub fn places(&self) -> [i32; ffi::CHART] {
+        self.state.places()
     }
 
     /// The chart row.
     pub fn row(&self) -> i32 {
-        self.places[0]
+        self.state.row
     }
 
     /// The week of the set charted last, 0 if there is none.
     pub fn last_week(&self) -> i32 {
-        self.places[1]
+        self.state.week
     }
 
     /// Charts the set of a week: one to five pairs original, monitor in hundredths of a percent. The
@@ -132,34 +164,29 @@ impl Chart {
         numbers: &[i32],
         line: &mut [u8],
     ) -> Result<ChartValues, Refusal> {
-        let mut values = [0; ffi::VALUES];
-        // SAFETY: the four arrays are lent for the call with their lengths and don't overlap.
-        let code = unsafe {
+        // SAFETY: the chart and the two arrays are lent for the call and don't overlap.
+        let said = unsafe {
             ffi::grain_chart_set(
-                self.places.as_mut_ptr(),
-                self.places.len(),
+                &mut self.state,
                 week,
                 numbers.as_ptr(),
                 numbers.len(),
-                values.as_mut_ptr(),
-                values.len(),
                 line.as_mut_ptr(),
                 line.len(),
             )
         };
-        answer(code)?;
-        let [week, count, sum, range, al, tl, run, ral, rtl, length] = values;
+        answer(said.accepted, said.number)?;
         Ok(ChartValues {
-            week,
-            count,
-            sum,
-            range,
-            average_absolute: al == 1,
-            average_tolerance: tl == 1,
-            run: run == 1,
-            range_absolute: ral == 1,
-            range_tolerance: rtl == 1,
-            length: length as usize,
+            week: said.week,
+            count: said.count,
+            sum: said.sum,
+            range: said.range,
+            average_absolute: said.al == 1,
+            average_tolerance: said.tl == 1,
+            run: said.run == 1,
+            range_absolute: said.ral == 1,
+            range_tolerance: said.rtl == 1,
+            length: said.length as usize,
         })
     }
 }
@@ -167,23 +194,14 @@ impl Chart {
 /// Charts a text into a lent buffer from its start and gives the length written. The buffer must
 /// have 40 bytes for each line written, the names line too. On refusal nothing is written.
 pub fn chart_text_into(text: &[u8], out: &mut [u8]) -> Result<usize, TextRefusal> {
-    let mut place = [0; ffi::PLACE];
-    // SAFETY: the three arrays are lent for the call with their lengths and don't overlap.
-    let code = unsafe {
-        ffi::grain_chart_text(
-            text.as_ptr(),
-            text.len(),
-            out.as_mut_ptr(),
-            out.len(),
-            place.as_mut_ptr(),
-            place.len(),
-        )
-    };
-    match answer(code) {
-        Ok(()) => Ok(place[0] as usize),
+    // SAFETY: the two arrays are lent for the call and don't overlap.
+    let said =
+        unsafe { ffi::grain_chart_text(text.as_ptr(), text.len(), out.as_mut_ptr(), out.len()) };
+    match answer(said.accepted, said.number) {
+        Ok(()) => Ok(said.length as usize),
         Err(refusal) => Err(TextRefusal {
             refusal,
-            line: place[0],
+            line: said.line,
         }),
     }
 }

@@ -5,6 +5,10 @@
 //! monitor samples; [`chart_text`] charts a whole text. A call answers its result or a [`Refusal`],
 //! which has a number and a message. Quantities are whole hundredths of a percent unless tenths are
 //! named. The rules themselves are in the core, which this crate links as a static library.
+//!
+//! Stations and charts are plain numbers without pointers. `to_bytes` stores one with the number of
+//! its layout ([`LAYOUT`]) in front, `from_bytes` takes it up again. They may go to any thread; a
+//! call borrows its own alone.
 
 #![deny(unsafe_op_in_unsafe_fn)]
 
@@ -12,7 +16,10 @@ mod chart;
 pub mod ffi;
 mod refusal;
 mod station;
+mod store;
 
 pub use chart::{Chart, ChartValues, TextRefusal, chart_text, chart_text_into};
+pub use ffi::LAYOUT;
 pub use refusal::Refusal;
 pub use station::{Basis, Certificate, Line, Outcome, PastSet, Phase, Scan, Station, reading};
+pub use store::RestoreError;

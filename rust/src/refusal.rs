@@ -3,8 +3,6 @@
 use std::error::Error;
 use std::fmt;
 
-use crate::ffi;
-
 /// Why a call was refused. The lowest applying number is answered, and the state stays as it was.
 ///
 /// ```
@@ -18,28 +16,54 @@ use crate::ffi;
 #[derive(Clone, Copy, Debug, PartialEq, Eq, Hash, PartialOrd, Ord)]
 #[repr(u8)]
 pub enum Refusal {
+    /// The stored station or chart is damaged: a number lies out of its bounds.
     Unsound = 0,
+    /// An opening names a product or chart row that there isn't.
     NoSuchRow = 1,
+    /// The day lies before the station's day or above 99999.
     Day = 2,
+    /// The grain doesn't have the line.
     NoSuchLine = 3,
+    /// A sheet isn't six numbers for each sample: 36 for wheat, 24 for corn.
     SheetLength = 4,
+    /// A sheet's number lies outside 0 to 10000 hundredths (-1 is allowed as third and as again pair), or
+    /// half an again pair is -1.
     SheetNumber = 5,
+    /// A third is missing though first and second differ by more than the pair limit, or is there though
+    /// they don't.
     Third = 6,
+    /// An again pair is missing for a deviating sample of a sheet whose range is too wide, or is there
+    /// though none is due.
     Again = 7,
+    /// The scan is a fault or another grain's.
     Scan = 8,
+    /// The analyser's value is not a number, below 0 or above 100 percent.
     Float = 9,
+    /// The moisture basis lies outside 0 to 5000 hundredths, or its kind doesn't exist.
     Basis = 10,
+    /// The reading with the line's intercept lies outside 0 to 10000 hundredths.
     Corrected = 11,
+    /// The line isn't open: no sheet has met its averages since it was opened, adjusted or repaired.
     NotOpen = 12,
+    /// The line's newest sheet is more than 7 days old.
     SetTooOld = 13,
+    /// The value at the asked basis is above 100 percent before rounding.
     AtBasis = 14,
+    /// The text exceeds 65536 bytes.
     TextTooLong = 15,
+    /// The text doesn't begin with its names line and a line feed.
     NamesLine = 16,
+    /// A text line isn't four decimals of at most five digits with single spaces and a line feed.
     ValueLine = 17,
+    /// A text line has neither the next sample of the week before it nor sample 1 of another week.
     SampleNumber = 18,
+    /// The week isn't above the chart's last week, or is above 9999.
     Week = 19,
+    /// A set has no pair, more than five, or an odd count of numbers.
     PairCount = 20,
+    /// A result of a pair lies outside 0 to 10000 hundredths.
     Result = 21,
+    /// The buffer has fewer than 40 bytes for each output line.
     BufferTooShort = 22,
 }
 
@@ -90,7 +114,7 @@ const MESSAGES: [(Refusal, &str); 23] = [
     ),
     (
         Refusal::Basis,
-        "the moisture basis lies outside 0.00 to 50.00 percent",
+        "the moisture basis lies outside 0.00 to 50.00 percent or is of no known kind",
     ),
     (
         Refusal::Corrected,
@@ -139,7 +163,7 @@ const MESSAGES: [(Refusal, &str); 23] = [
     ),
     (
         Refusal::BufferTooShort,
-        "the output buffer has fewer than 40 bytes for a line",
+        "the output buffer has fewer than 40 bytes for each line",
     ),
 ];
 
@@ -150,7 +174,7 @@ impl Refusal {
     }
 
     /// The refusal with this number.
-    pub fn of(number: i32) -> Option<Refusal> {
+    pub fn of(number: u32) -> Option<Refusal> {
         let place = usize::try_from(number).ok()?;
         MESSAGES.get(place).map(|(refusal, _)| *refusal)
     }
@@ -174,13 +198,14 @@ impl fmt::Display for Refusal {
 
 impl Error for Refusal {}
 
-/// Reads the core's answer. Misuse can't be: the arrays of this crate have their full length.
-pub(crate) fn answer(code: i32) -> Result<(), Refusal> {
-    if code == ffi::OK {
-        return Ok(());
-    }
-    match Refusal::of(code) {
-        Some(refusal) => Err(refusal),
-        None => panic!("the grain core answered {code}, which its interface doesn't have"),
+/// Reads the core's answer: `accepted` and `number`.
+pub(crate) fn answer(accepted: u32, number: u32) -> Result<(), Refusal> {
+    match (accepted, Refusal::of(number)) {
+        (1, _) => Ok(()),
+        (0, Some(refusal)) => Err(refusal),
+        _ => panic!(
+            "the grain core answered accepted {accepted}, number {number}, which its interface \
+             doesn't have"
+        ),
     }
 }

@@ -2,12 +2,13 @@
 
 use crate::ffi;
 use crate::refusal::{Refusal, answer};
+use crate::store::{self, RestoreError};
 
 /// A station of one grain: its lines' intercepts, phases and past sets, and the day of its last
 /// accepted call.
 ///
-/// The state is an array of 47 numbers that may be stored ([`Station::places`]) and taken up again
-/// ([`Station::from_places`]). A refused call leaves it as it was.
+/// The state is 47 numbers, which may be stored ([`Station::to_bytes`]) and taken up again
+/// ([`Station::from_bytes`]). A refused call leaves it as it was.
 ///
 /// ```
 /// use grain::{Basis, Phase, Scan, Station};
@@ -16,16 +17,17 @@ use crate::refusal::{Refusal, answer};
 /// // Six samples: baseline, first, second, third, again-first, again-second; -1 is not measured.
 /// let sheet = [1300, 1302, 1298, -1, -1, -1].repeat(6);
 /// let outcome = station.sheet(100, 0, &sheet)?;
-/// assert_eq!((outcome.s, outcome.n, outcome.phase, outcome.change), (0, 12, Phase::Open, 0));
+/// assert_eq!((outcome.sum, outcome.count, outcome.phase, outcome.change), (0, 12, Phase::Open, 0));
 ///
 /// let certificate = station.market(101, 0, Scan::Wheat(13.54), Basis::Dry)?;
-/// assert_eq!((certificate.figure, certificate.at_basis), (135, 154));
+/// assert_eq!((certificate.figure, certificate.converted), (135, 154));
 /// assert_eq!(station.day(), 101);
 /// # Ok::<(), grain::Refusal>(())
 /// ```
 #[derive(Clone, Debug, PartialEq, Eq, Hash)]
+#[repr(transparent)]
 pub struct Station {
-    places: [i32; ffi::STATION],
+    state: ffi::Station,
 }
 
 /// A line is new, open for market tests, or has its check due.
@@ -36,12 +38,14 @@ pub enum Phase {
     CheckDue,
 }
 
-/// A past set of a line: its day, the sum S of the kept deviations and N, twice the number kept.
+/// A past set of a line.
 #[derive(Clone, Copy, Debug, PartialEq, Eq, Hash)]
 pub struct PastSet {
     pub day: i32,
-    pub s: i32,
-    pub n: i32,
+    /// S, the sum of the kept deviations, in hundredths of a percent.
+    pub sum: i32,
+    /// N, twice the number of samples kept.
+    pub count: i32,
 }
 
 /// A line as the station holds it.
@@ -57,13 +61,13 @@ pub struct Line {
 /// What an accepted sheet did.
 #[derive(Clone, Copy, Debug, PartialEq, Eq, Hash)]
 pub struct Outcome {
-    /// The sum of the kept deviations.
-    pub s: i32,
-    /// Twice the number of samples kept; the set's average is S/N hundredths of a percent.
-    pub n: i32,
+    /// S, the sum of the kept deviations, in hundredths of a percent.
+    pub sum: i32,
+    /// N, twice the number of samples kept; the set's average is S/N hundredths of a percent.
+    pub count: u32,
     /// The line's phase after the sheet.
     pub phase: Phase,
-    /// The change of the line's intercept, 0 if none.
+    /// The change of the line's intercept in hundredths of a percent, 0 if none.
     pub change: i32,
 }
 
@@ -90,23 +94,23 @@ pub enum Basis {
 #[derive(Clone, Copy, Debug, PartialEq, Eq, Hash)]
 pub struct Certificate {
     /// The day of the line's newest set.
-    pub set_day: i32,
+    pub day: u32,
     /// Hundredths of a percent.
     pub intercept: i32,
     /// B in hundredths of a percent.
     pub basis: i32,
     /// The corrected value in tenths of a percent.
-    pub figure: i32,
+    pub figure: u32,
     /// The value at B in tenths of a percent.
-    pub at_basis: i32,
+    pub converted: u32,
 }
 
 impl Phase {
     fn of(place: i32) -> Option<Phase> {
         match place {
-            0 => Some(Phase::New),
-            1 => Some(Phase::Open),
-            2 => Some(Phase::CheckDue),
+            ffi::NEW => Some(Phase::New),
+            ffi::OPEN => Some(Phase::Open),
+            ffi::CHECK_DUE => Some(Phase::CheckDue),
             _ => None,
         }
     }
@@ -145,43 +149,69 @@ impl Station {
     /// The product row of corn: line 0 protein, 1 oil, 2 starch, four samples a sheet.
     pub const CORN: u64 = 1;
 
+    /// The bytes of a stored station.
+    pub const BYTES: usize = 4 + 4 * ffi::STATION;
+
     /// A fresh station of a product row.
     pub fn open(row: u64) -> Result<Station, Refusal> {
-        let mut places = [0; ffi::STATION];
-        // SAFETY: the array is lent for the call with its length.
-        let code = unsafe { ffi::grain_open(row, places.as_mut_ptr(), places.len()) };
-        answer(code).map(|()| Station { places })
+        let mut state = ffi::Station::default();
+        // SAFETY: the station is lent for the call.
+        let said = unsafe { ffi::grain_open(&mut state, row) };
+        answer(said.accepted, said.number).map(|()| Station { state })
     }
 
-    /// Takes up a stored station. Any numbers may be given: what is no sound station is refused by
-    /// every call ([`Refusal::Unsound`]).
+    /// The station to be stored: the layout's number and the 47 numbers, little-endian.
+    pub fn to_bytes(&self) -> [u8; Station::BYTES] {
+        store::stored(&self.places())
+    }
+
+    /// Takes up a stored station. Numbers that are no sound station are taken up as well, and
+    /// refused by every call ([`Refusal::Unsound`]).
+    ///
+    /// ```
+    /// use grain::{RestoreError, Station};
+    ///
+    /// let station = Station::open(Station::CORN).unwrap();
+    /// let bytes = station.to_bytes();
+    /// assert_eq!(Station::from_bytes(&bytes)?, station);
+    /// # Ok::<(), RestoreError>(())
+    /// ```
+    pub fn from_bytes(bytes: &[u8]) -> Result<Station, RestoreError> {
+        store::restored(bytes).map(Station::from_places)
+    }
+
+    /// The station of 47 numbers. Any may be given: what is no sound station is refused by every
+    /// call ([`Refusal::Unsound`]).
     ///
     /// ```
     /// use grain::{Refusal, Station};
     ///
-    /// let mut places = *Station::open(Station::CORN)?.places();
+    /// let mut places = Station::open(Station::CORN)?.places();
     /// assert_eq!(Station::from_places(places).repair(5), Ok(()));
     /// places[0] = 7;
     /// assert_eq!(Station::from_places(places).repair(5), Err(Refusal::Unsound));
     /// # Ok::<(), Refusal>(())
     /// ```
     pub fn from_places(places: [i32; ffi::STATION]) -> Station {
-        Station { places }
+        Station {
+            state: ffi::Station::of(&places),
+        }
     }
 
-    /// The station's 47 numbers, to be stored.
-    pub fn places(&self) -> &[i32; ffi::STATION] {
-        &self.places
+    /// The station's 47 numbers: row, day, then for each line intercept, phase, held and four past
+    /// sets of day, S and N.
+    pub fn places(&self) -> [i32; ffi::STATION] {
+        self.state.places()
     }
 
     /// The product row.
     pub fn row(&self) -> i32 {
-        self.places[0]
+        self.state.row
     }
 
     /// The day of the last accepted call.
     pub fn day(&self) -> i32 {
-        self.places[1]
+        self.state.day
     }
 
     /// Line 0, 1 or 2 as it is held; none if there is no such line or the numbers are none of a
@@ -197,17 +227,17 @@ impl Station {
     /// # Ok::<(), grain::Refusal>(())
     /// ```
     pub fn line(&self, line: usize) -> Option<Line> {
-        let places = self.places[2..].chunks_exact(15).nth(line)?;
-        let held = usize::try_from(places[2]).ok().filter(|&held| held <= 4)?;
-        let set = |set: &[i32]| PastSet {
-            day: set[0],
-            s: set[1],
-            n: set[2],
+        let line = self.state.lines.get(line)?;
+        let held = line.past.get(..usize::try_from(line.held).ok()?)?;
+        let set = |set: &ffi::PastSet| PastSet {
+            day: set.day,
+            sum: set.sum,
+            count: set.count,
         };
         Some(Line {
-            intercept: places[0],
-            phase: Phase::of(places[1])?,
-            past: places[3..].chunks_exact(3).take(held).map(set).collect(),
+            intercept: line.intercept,
+            phase: Phase::of(line.phase)?,
+            past: held.iter().map(set).collect(),
         })
     }
 
@@ -221,34 +251,23 @@ impl Station {
     /// // Every sample 0.11 percent too high: the intercept is lowered and the check is due.
     /// let sheet = [1300, 1311, 1311, -1, -1, -1].repeat(6);
     /// let outcome = station.sheet(1, 0, &sheet)?;
-    /// assert_eq!((outcome.s, outcome.change, outcome.phase), (132, -11, Phase::CheckDue));
+    /// assert_eq!((outcome.sum, outcome.change, outcome.phase), (132, -11, Phase::CheckDue));
     /// // First and second more than 0.30 apart: a third is due.
     /// let sheet = [1300, 1300, 1331, -1, -1, -1].repeat(6);
     /// assert_eq!(station.sheet(1, 0, &sheet), Err(Refusal::Third));
     /// # Ok::<(), Refusal>(())
     /// ```
     pub fn sheet(&mut self, day: u32, line: u64, numbers: &[i32]) -> Result<Outcome, Refusal> {
-        let mut outcome = [0; ffi::OUTCOME];
-        // SAFETY: the three arrays are lent for the call with their lengths and don't overlap.
-        let code = unsafe {
-            ffi::grain_sheet(
-                self.places.as_mut_ptr(),
-                self.places.len(),
-                day,
-                line,
-                numbers.as_ptr(),
-                numbers.len(),
-                outcome.as_mut_ptr(),
-                outcome.len(),
-            )
+        // SAFETY: the station and the numbers are lent for the call and don't overlap.
+        let said = unsafe {
+            ffi::grain_sheet(&mut self.state, day, line, numbers.as_ptr(), numbers.len())
         };
-        answer(code)?;
-        let [s, n, phase, change] = outcome;
+        answer(said.accepted, said.number)?;
         Ok(Outcome {
-            s,
-            n,
-            phase: Phase::of(phase).expect("the core answers one of three phases"),
-            change,
+            sum: said.sum,
+            count: said.count,
+            phase: Phase::of(said.phase as i32).expect("the core answers one of three phases"),
+            change: said.change,
         })
     }
 
@@ -264,9 +283,9 @@ impl Station {
     /// # Ok::<(), grain::Refusal>(())
     /// ```
     pub fn repair(&mut self, day: u32) -> Result<(), Refusal> {
-        // SAFETY: the array is lent for the call with its length.
-        let code = unsafe { ffi::grain_repair(self.places.as_mut_ptr(), self.places.len(), day) };
-        answer(code)
+        // SAFETY: the station is lent for the call.
+        let said = unsafe { ffi::grain_repair(&mut self.state, day) };
+        answer(said.accepted, said.number)
     }
 
     /// A market test of a line.
@@ -289,12 +308,10 @@ impl Station {
     ) -> Result<Certificate, Refusal> {
         let (scan_kind, [first, second, third]) = scan.arguments();
         let (basis_kind, basis) = basis.arguments();
-        let mut certificate = [0; ffi::CERTIFICATE];
-        // SAFETY: the two arrays are lent for the call with their lengths and don't overlap.
-        let code = unsafe {
+        // SAFETY: the station is lent for the call.
+        let said = unsafe {
             ffi::grain_market(
-                self.places.as_mut_ptr(),
-                self.places.len(),
+                &mut self.state,
                 day,
                 line,
                 scan_kind,
@@ -303,18 +320,15 @@ impl Station {
                 third,
                 basis_kind,
                 basis,
-                certificate.as_mut_ptr(),
-                certificate.len(),
             )
         };
-        answer(code)?;
-        let [set_day, intercept, basis, figure, at_basis] = certificate;
+        answer(said.accepted, said.number)?;
         Ok(Certificate {
-            set_day,
-            intercept,
-            basis,
-            figure,
-            at_basis,
+            day: said.day,
+            intercept: said.intercept,
+            basis: said.basis,
+            figure: said.figure,
+            converted: said.converted,
         })
     }
 }
@@ -328,9 +342,7 @@ impl Station {
 /// assert_eq!(reading(f32::from_bits(0x3BA3_D70A)), Ok(0)); // just below 0.005
 /// assert_eq!(reading(100.1), Err(Refusal::Float));
 /// ```
-pub fn reading(percent: f32) -> Result<i32, Refusal> {
-    let mut hundredths = [0; ffi::READING];
-    // SAFETY: the array is lent for the call with its length.
-    let code = unsafe { ffi::grain_reading(percent, hundredths.as_mut_ptr(), hundredths.len()) };
-    answer(code).map(|()| hundredths[0])
+pub fn reading(percent: f32) -> Result<u32, Refusal> {
+    let said = ffi::grain_reading(percent);
+    answer(said.accepted, said.number).map(|()| said.hundredths)
 }

@@ -1,8 +1,10 @@
-//! The wrapper's own parts: messages, stored states, conveniences.
+//! The wrapper's own parts: messages, stored states, conveniences; and that the header says the same.
 
 use std::collections::BTreeSet;
+use std::path::Path;
+use std::process::Command;
 
-use grain::{Chart, Phase, Refusal, Station, chart_text, chart_text_into};
+use grain::{Chart, LAYOUT, Phase, Refusal, RestoreError, Station, chart_text, chart_text_into};
 
 #[test]
 fn every_refusal_has_its_number_and_message() {
@@ -20,8 +22,71 @@ fn every_refusal_has_its_number_and_message() {
     let messages: BTreeSet<&str> = all.iter().map(|refusal| refusal.message()).collect();
     assert_eq!(messages.len(), 23);
     assert!(messages.iter().all(|message| message.len() > 20));
-    for none in [-3, -1, 23, 100] {
+    for none in [23, 100, 256, u32::MAX] {
         assert_eq!(Refusal::of(none), None);
+    }
+}
+
+/// A C program that prints the header's version, layout and messages.
+const SAYS: &str = r#"
+#include "grain.h"
+#include <stdio.h>
+int main(void)
+{
+    printf("%s\n%d\n", GRAIN_VERSION, GRAIN_LAYOUT);
+    for (uint32_t number = 0; number < 24; number++)
+        printf("%s\n", grain_message(number));
+    return 0;
+}
+"#;
+
+#[test]
+fn the_header_says_the_same() {
+    let folder = Path::new(env!("CARGO_TARGET_TMPDIR"));
+    let (source, program) = (folder.join("says.c"), folder.join("says"));
+    std::fs::write(&source, SAYS).unwrap();
+    let include = Path::new(env!("CARGO_MANIFEST_DIR")).join("../include");
+    let compiled = Command::new("cc")
+        .args(["-std=c11", "-I"])
+        .args([&include, &source])
+        .arg("-o")
+        .arg(&program)
+        .status()
+        .expect("the test needs a C compiler, cc");
+    assert!(compiled.success());
+    let said = Command::new(&program).output().unwrap();
+    let said = String::from_utf8(said.stdout).unwrap();
+    let mut lines = said.lines();
+    assert_eq!(lines.next(), Some(env!("CARGO_PKG_VERSION")));
+    assert_eq!(lines.next(), Some(LAYOUT.to_string().as_str()));
+    for refusal in Refusal::all() {
+        assert_eq!(lines.next(), Some(refusal.message()), "{refusal:?}");
+    }
+    assert_eq!(lines.next(), Some("there is no refusal with this number"));
+    assert_eq!(lines.next(), None);
+}
+
+/// The limits in the header's text are those of the rules.
+#[test]
+fn the_header_has_the_limits() {
+    let header = Path::new(env!("CARGO_MANIFEST_DIR")).join("../include/grain.h");
+    let header = std::fs::read_to_string(header).unwrap();
+    let rows: Vec<String> = header
+        .lines()
+        .map(|line| line.split_whitespace().collect::<Vec<_>>().join(" "))
+        .collect();
+    let products = grain_model::Rules::paper().products;
+    let names = [
+        vec!["wheat protein"],
+        vec!["corn protein", "corn oil", "corn starch"],
+    ];
+    for (product, names) in products.iter().zip(names) {
+        assert_eq!(product.lines.len(), names.len());
+        for (limits, name) in product.lines.iter().zip(names) {
+            let (pair, sample, range) = (limits.pair, limits.sample, limits.range);
+            let row = format!("* {name} {pair} {sample} {range}");
+            assert!(rows.contains(&row), "{row}");
+        }
     }
 }
 
@@ -31,15 +96,80 @@ fn a_stored_station_goes_on() {
     let sheet = [1300, 1303, 1303, -1, -1, -1].repeat(6);
     station.sheet(4, 0, &sheet).unwrap();
     station.sheet(5, 0, &sheet).unwrap();
-    let mut again = Station::from_places(*station.places());
+    let mut again = Station::from_bytes(&station.to_bytes()).unwrap();
     assert_eq!(again, station);
+    assert_eq!(Station::from_places(station.places()), station);
     assert_eq!(again.sheet(6, 0, &sheet), station.sheet(6, 0, &sheet));
     assert_eq!(again, station);
     let line = station.line(0).unwrap();
     assert_eq!((line.phase, line.past.len()), (Phase::Open, 3));
     let newest = line.past[0];
-    assert_eq!((newest.day, newest.s, newest.n), (6, 36, 12));
+    assert_eq!((newest.day, newest.sum, newest.count), (6, 36, 12));
     assert_eq!(station.line(3), None);
+}
+
+/// The numbers from 1 on, so that every place has another.
+fn counted<const LEN: usize>() -> [i32; LEN] {
+    std::array::from_fn(|place| place as i32 + 1)
+}
+
+/// The bytes are the places as they lie in memory, the layout's number in front: a C program that
+/// stores GRAIN_LAYOUT and the struct writes the same on a little-endian machine.
+#[test]
+fn stored_bytes_are_the_places() {
+    let mut expected = LAYOUT.to_le_bytes().to_vec();
+    expected.extend(counted::<47>().iter().flat_map(|place| place.to_le_bytes()));
+    let station = Station::from_places(counted());
+    assert_eq!(station.places(), counted());
+    assert_eq!(station.to_bytes().as_slice(), expected);
+    assert_eq!(Station::from_bytes(&expected), Ok(station));
+
+    let mut expected = LAYOUT.to_le_bytes().to_vec();
+    expected.extend(counted::<15>().iter().flat_map(|place| place.to_le_bytes()));
+    let chart = Chart::from_places(counted());
+    assert_eq!(chart.places(), counted());
+    assert_eq!(chart.to_bytes().as_slice(), expected);
+    assert_eq!(Chart::from_bytes(&expected), Ok(chart));
+}
+
+#[test]
+fn other_bytes_are_not_restored() {
+    let station = Station::open(Station::CORN).unwrap().to_bytes();
+    let length = |found, needed| RestoreError::Length { found, needed };
+    for few in [0, 3, 4, 191] {
+        let error = Station::from_bytes(&station[..few]);
+        assert_eq!(error, Err(length(few, 192)));
+    }
+    let more = [&station[..], &[0]].concat();
+    assert_eq!(Station::from_bytes(&more), Err(length(193, 192)));
+    let chart = Chart::open(Chart::SOYBEAN_OIL).unwrap().to_bytes();
+    assert_eq!(Station::from_bytes(&chart), Err(length(64, 192)));
+    assert_eq!(Chart::from_bytes(&station), Err(length(192, 64)));
+    for found in [0, LAYOUT + 1, LAYOUT << 8, u32::MAX] {
+        let mut other = station;
+        other[..4].copy_from_slice(&found.to_le_bytes());
+        let error = Err(RestoreError::Layout { found });
+        assert_eq!(Station::from_bytes(&other), error);
+        // Another layout may have another length.
+        assert_eq!(Station::from_bytes(&other[..100]), error);
+    }
+    let text = RestoreError::Layout { found: 9 }.to_string();
+    assert!(
+        text.contains("layout 9") && text.contains("layout 1"),
+        "{text}"
+    );
+    let text = length(64, 192).to_string();
+    assert!(text.contains("64") && text.contains("192"), "{text}");
+}
+
+/// Damaged numbers are restored as they are, and every call refuses them.
+#[test]
+fn a_damaged_station_is_refused() {
+    let mut bytes = Station::open(Station::WHEAT).unwrap().to_bytes();
+    bytes[4 + 4 * 3] = 3; // line 0's phase
+    let mut station = Station::from_bytes(&bytes).unwrap();
+    assert_eq!(station.repair(1), Err(Refusal::Unsound));
+    assert_eq!(station.to_bytes(), bytes);
 }
 
 #[test]

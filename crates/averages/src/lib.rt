@@ -4,7 +4,6 @@ mod answer;
 pub use answer::Found;
 use rules::Limits;
 use rules::PastSet;
-use rules::Phase;
 use rules::Set;
 use rules::Test;
 use whole::Int;
@@ -123,13 +122,13 @@ fn check(limits: Limits, set: Set) -> Found
 }
 
 // The first test exceeded of those due by the phase, with the newest k past sets valid.
-pub fn first_exceeded(limits: Limits, phase: Phase, set: Set, k: usize, past: [PastSet; 4]) -> Found
+pub fn first_exceeded(limits: Limits, phase: u32, set: Set, k: usize, past: [PastSet; 4]) -> Found
     requires { ⌜ Due limits set k past ⌝ }
     ensures { λ r. ⌜ (r ≡ foundOf (firstExceeded (testsBy limits (phaseWord phase) set (take k past)))) × FoundFits r ⌝ }
 {
-    match phase {
-        Phase::New => one_set(limits, set, k, past),
-        Phase::Open => one_set(limits, set, k, past),
-        Phase::CheckDue => check(limits, set),
+    if phase < 2 {
+        one_set(limits, set, k, past)
+    } else {
+        check(limits, set)
     }
 }

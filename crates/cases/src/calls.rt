@@ -1,60 +1,66 @@
-// A call, its answer printed, and the station that it hands back.
+// A call on a station in its places, its answer printed, and the places that it leaves.
 use super::say;
 use super::sheets;
 use rules::Basis;
 use rules::CornSet;
 use rules::Scan;
-use rules::Station;
 
-pub(crate) fn open(row: usize) -> Station {
-    let given = station::open(row);
-    let answer = given.answer;
-    say::opening(row, answer);
-    given.station
+// A station that is opened without a word.
+pub(crate) fn fresh(row: usize) -> [i32; 47] {
+    let mut state = [0; 47];
+    station::open(&mut state, row);
+    state
 }
 
-pub(crate) fn sheet(s: Station, day: u32, numbers: [i32; 36]) -> Station {
-    let given = station::sheet(s, day, 0, &numbers);
-    let answer = given.answer;
+pub(crate) fn open(row: usize) -> [i32; 47] {
+    let mut state = [0; 47];
+    let answer = station::open(&mut state, row);
+    say::opening(row, answer);
+    state
+}
+
+pub(crate) fn sheet(s: [i32; 47], day: u32, numbers: [i32; 36]) -> [i32; 47] {
+    let mut state = s;
+    let answer = station::sheet(&mut state, day, 0, &numbers);
     say::sheet(day, 0, answer);
-    given.station
+    state
 }
 
 // A wheat sheet of six samples alike.
-pub(crate) fn alike(s: Station, day: u32, baseline: i32, result: i32) -> Station {
+pub(crate) fn alike(s: [i32; 47], day: u32, baseline: i32, result: i32) -> [i32; 47] {
     sheet(s, day, sheets::wheat(baseline, result))
 }
 
 // A wheat sheet of five samples alike, and the last with its own pair and again results.
-pub(crate) fn but_last(s: Station, day: u32, result: i32, last: [i32; 3]) -> Station {
+pub(crate) fn but_last(s: [i32; 47], day: u32, result: i32, last: [i32; 3]) -> [i32; 47] {
     sheet(s, day, sheets::but_last(result, last))
 }
 
-pub(crate) fn corn_sheet(s: Station, day: u32, line: usize, result: i32) -> Station {
+pub(crate) fn corn_sheet(s: [i32; 47], day: u32, line: usize, result: i32) -> [i32; 47] {
     let numbers = sheets::corn(result);
-    let given = station::sheet(s, day, line, &numbers);
-    let answer = given.answer;
+    let mut state = s;
+    let answer = station::sheet(&mut state, day, line, &numbers);
     say::sheet(day, line, answer);
-    given.station
+    state
 }
 
-pub(crate) fn repair(s: Station, day: u32) -> Station {
-    let given = station::repair(s, day);
-    let answer = given.answer;
+pub(crate) fn repair(s: [i32; 47], day: u32) -> [i32; 47] {
+    let mut state = s;
+    let answer = station::repair(&mut state, day);
     say::repair(day, answer);
-    given.station
+    state
 }
 
-pub(crate) fn market(s: Station, day: u32, scan: Scan, basis: Basis) -> Station {
-    let given = market::market(s, day, 0, scan, basis);
-    let answer = given.answer;
+pub(crate) fn market(s: [i32; 47], day: u32, scan: Scan, basis: Basis) -> [i32; 47] {
+    let mut state = s;
+    let answer = market::market(&mut state, day, 0, scan, basis);
     say::market(day, 0, answer);
-    given.station
+    state
 }
 
-pub(crate) fn corn_market(s: Station, day: u32, line: usize, set: CornSet) -> Station {
-    let given = market::market(s, day, line, Scan::Corn(set), Basis::Standard);
-    let answer = given.answer;
+pub(crate) fn corn_market(s: [i32; 47], day: u32, line: usize, set: CornSet) -> [i32; 47] {
+    let mut state = s;
+    let answer = market::market(&mut state, day, line, Scan::Corn(set), Basis::Standard);
     say::market(day, line, answer);
-    given.station
+    state
 }

@@ -1,14 +1,13 @@
-// Whole lists of calls, each on the station that the call before handed back.
+// Whole lists of calls, each on the places that the call before left.
 use super::calls;
 use super::say;
 use super::sheets;
 use rules::Basis;
 use rules::CornSet;
 use rules::Scan;
-use rules::Station;
 
 // Adjusted by S 122, not open, opened by its check, certified with the new intercept.
-pub(crate) fn adjusted() -> Station {
+pub(crate) fn adjusted() -> [i32; 47] {
     say::heading(b"adjust, check, certify");
     let new = calls::open(0);
     let due = calls::but_last(new, 1, 1010, [1011, 1011, -1]);
@@ -18,7 +17,7 @@ pub(crate) fn adjusted() -> Station {
 }
 
 // A day before the last, a repair, not open, opened by a sheet.
-pub(crate) fn repaired(s: Station) {
+pub(crate) fn repaired(s: [i32; 47]) {
     say::heading(b"a day before the last, repair, check, certify");
     let early = calls::but_last(s, 2, 1010, [1011, 1011, -1]);
     let new = calls::repair(early, 4);
@@ -59,7 +58,7 @@ pub(crate) fn corn() {
     corn_tests(starch);
 }
 
-fn corn_tests(s: Station) {
+fn corn_tests(s: [i32; 47]) {
     say::heading(b"corn certified: oil, starch; protein is new");
     let set = CornSet {
         protein: 8.5,

@@ -4,7 +4,6 @@ use rules::Certificate;
 use rules::MarketAnswer;
 use rules::OpenAnswer;
 use rules::Outcome;
-use rules::Phase;
 use rules::Refusal;
 use rules::RepairAnswer;
 use rules::SheetAnswer;
@@ -33,15 +32,15 @@ fn whole_number(before: &[u8], z: i32) {
 }
 
 fn refusal(r: Refusal) {
-    whole_number(b": refused ", refusals::number(r));
+    natural(b": refused ", refusals::number(r));
     text(b"\n");
 }
 
-fn phase(p: Phase) {
+fn phase(p: u32) {
     match p {
-        Phase::New => text(b" new"),
-        Phase::Open => text(b" open"),
-        Phase::CheckDue => text(b" check due"),
+        0 => text(b" new"),
+        1 => text(b" open"),
+        _ => text(b" check due"),
     }
 }
 

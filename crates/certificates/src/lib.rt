@@ -2,7 +2,6 @@
 use rules::Certificate;
 use rules::Line;
 use rules::MarketAnswer;
-use rules::Phase;
 use rules::Refusal;
 use whole::Int;
 ghost use mathlib.Core.Path.{_≡_};
@@ -13,14 +12,10 @@ ghost use Rattle.rules.specs.Markets.{isOpen, within};
 ghost use Rattle.lines.specs.Ranges.{LineFits};
 ghost use Rattle.certificates.specs.Certified.{certifiedOf};
 
-fn is_open(phase: Phase) -> bool
+fn is_open(phase: u32) -> bool
     ensures { λ r. ⌜ r ≡ isOpen (phaseWord phase) ⌝ }
 {
-    match phase {
-        Phase::New => false,
-        Phase::Open => true,
-        Phase::CheckDue => false,
-    }
+    phase == 1
 }
 
 // By the basis B and the corrected value h.
@@ -29,8 +24,7 @@ pub fn certify(a: u32, l: Line, day: u32, b: Int, h: Int) -> MarketAnswer
     requires { ⌜ (within 0 5000 (b .z) ≡ true) × (within 0 10000 (h .z) ≡ true) ⌝ }
     ensures { λ r. ⌜ r ≡ certifiedOf a (lineValues l) day (b .z) (h .z) ⌝ }
 {
-    let phase = l.phase;
-    if !is_open(phase) {
+    if !is_open(l.phase) {
         return MarketAnswer::Refused(Refusal::NotOpen);
     }
     let past = l.past;

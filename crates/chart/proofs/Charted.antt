@@ -1,5 +1,5 @@
 -- The output line's length, and what a refused call leaves.
-use mathlib.Core.Path.{_≡_, refl, sym, ap, _∙_}
+use mathlib.Core.Path.{_≡_, refl}
 use mathlib.Core.List.{List}
 use mathlib.Core.Option.{some}
 use Prim.Native.Nat.{ℕ, _≤_}
@@ -11,7 +11,7 @@ use Rattle.decimal.specs.Put.{overwritten}
 use Rattle.chart_sets.specs.Sets.{setOf}
 use Rattle.chart_line.specs.Lines.{valuesOf, lineOf}
 use Rattle.chart_refusals.specs.Checks.{refusalOf}
-use Rattle.chart.specs.Calls.{accepted, resultOf, bytesOf, SetCharted, chartSetOf}
+use Rattle.chart.specs.Calls.{accepted, resultOf, bytesOf, chartSetOf}
 use Rattle.chart.specs.Answers.{chartSays}
 use Rattle.chart.specs.Laws.{RefusedUntouched, LineFits}
 use Rattle.chart_state.specs.declared.Chart.{Chart}
@@ -72,11 +72,3 @@ refused-untouched = record {
   chart = λ c week numbers buffer n e. untouched c week numbers (length buffer) buffer n e .0;
   buffer = λ c week numbers buffer n e. untouched c week numbers (length buffer) buffer n e .1;
 }
-
--- ---- the call's contract, from its result and what was written
-pub call-is : (c : Chart) (week : ℕ) (numbers : List ℤ) (old new : List ℕ) (r : ChartResult)
-    → r ≡ resultOf c week numbers (length old) → new ≡ overwritten (bytesOf (r .answer)) old → _≡_ {A = SetCharted} (chartSetOf c week numbers old) (record { result = r; buffer = new })
-unfolding chartSetOf
-call-is c week numbers old new r is bytes =
-    let all = ap (λ (x : ChartResult). overwritten (bytesOf (x .answer)) old) (sym is) ∙ sym bytes in
-    λ i. record { result = sym is i; buffer = all i }

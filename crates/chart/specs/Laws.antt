@@ -12,6 +12,8 @@ use Rattle.chart.specs.Openings.{openOf}
 use Rattle.chart_state.specs.Charts.{sound}
 use Rattle.chart_refusals.specs.Checks.{checksOf}
 use Rattle.chart.specs.Calls.{resultOf, bytesOf, chartSetOf}
+use Rattle.chart_places.specs.ChartPlaces.{chartAt}
+use Rattle.chart.specs.InPlace.{openIn, chartSetIn}
 use Rattle.chart.specs.Answers.{openSays, chartSays}
 use Rattle.chart_state.specs.declared.Chart.{Chart}
 
@@ -31,6 +33,14 @@ pub record RefusedUntouched : Type 0 where
       → chartSays (chartSetOf c week numbers buffer .result .answer) .number ≡ some n → chartSetOf c week numbers buffer .result .chart ≡ c
   pub buffer : (c : Chart) (week : ℕ) (numbers : List ℤ) (buffer : List ℕ) (n : ℕ)
       → chartSays (chartSetOf c week numbers buffer .result .answer) .number ≡ some n → chartSetOf c week numbers buffer .buffer ≡ buffer
+
+-- the chart that is read from the places after a call is the definition's, and a refused call leaves every place
+pub record HeldInPlace : Type 0 where
+  pub opened : (row : ℕ) → chartAt (openIn row .places) ≡ openOf row .chart
+  pub charted : (words : List ℤ) (week : ℕ) (numbers : List ℤ) (buffer : List ℕ)
+      → chartAt (chartSetIn words week numbers buffer .places) ≡ resultOf (chartAt words) week numbers (length buffer) .chart
+  pub refused : (words : List ℤ) (week : ℕ) (numbers : List ℤ) (buffer : List ℕ) (n : ℕ)
+      → chartSays (chartSetIn words week numbers buffer .answer) .number ≡ some n → chartSetIn words week numbers buffer .places ≡ words
 
 -- a line has at most 40 bytes, so a buffer that isn't refused holds it
 pub record LineFits : Type 0 where

@@ -7,8 +7,8 @@ ghost use mathlib.Core.Path.{_≡_};
 ghost use Prim.Native.Nat.{_+_, _-_, _≤_};
 ghost use lib.ListN.{length};
 ghost use Rattle.decimal.specs.Put.{Put};
-ghost use Rattle.chart.specs.Openings.{openOf};
-ghost use Rattle.chart.specs.Calls.{resultOf, bytesOf, chartSetOf};
+ghost use Rattle.chart.specs.Calls.{resultOf, bytesOf};
+ghost use Rattle.chart.specs.InPlace.{openIn, chartSetIn};
 
 pub enum OpenAnswer {
     Opened,
@@ -21,11 +21,7 @@ pub enum ChartAnswer {
     Refused(Refusal),
 }
 
-pub struct Opening {
-    pub chart: Chart,
-    pub answer: OpenAnswer,
-}
-
+// A charted set in a text: the chart after it, and the answer.
 pub struct ChartResult {
     pub chart: Chart,
     pub answer: ChartAnswer,
@@ -33,54 +29,70 @@ pub struct ChartResult {
 
 // ---- opening
 
-// A fresh chart of a row; a refused opening hands back one of row 0.
-pub fn open(row: usize) -> Opening
-    ensures { λ r. ⌜ r ≡ openOf row ⌝ }
+// A fresh chart of a row; a refused opening leaves one of row 0.
+pub fn open(state: &mut [i32; 15], row: usize) -> OpenAnswer
+    ensures { λ r. ⌜ record { answer = r; places = now (state .exit) } ≡ openIn row ⌝ }
 {
     if row < 4 {
-        let chart = chart_state::fresh_chart(row);
-        return Opening {
-            chart,
-            answer: OpenAnswer::Opened,
-        };
+        chart_places::put_fresh(state, row as u32);
+        return OpenAnswer::Opened;
     }
-    let chart = chart_state::fresh_chart(0);
-    Opening {
-        chart,
-        answer: OpenAnswer::Refused(Refusal::UnknownRow),
+    chart_places::put_fresh(state, 0);
+    OpenAnswer::Refused(Refusal::UnknownRow)
+}
+
+// ---- one set
+
+// A set judged first, and its line written last, from position at on.
+fn answer_at(chart: Chart, week: u32, numbers: &[i32], out: &mut [u8], at: usize) -> ChartAnswer
+    requires { ⌜ at ≤ length (now out) ⌝ }
+    ensures { λ r. ⌜ r ≡ resultOf chart week (now (numbers .entry)) (length (now (out .entry)) - at) .answer ⌝ }
+    ensures { λ r. ⌜ Put (now (out .entry)) at (bytesOf r) (now (out .exit)) (at + length (bytesOf r)) ⌝ }
+{
+    let room = out.len() - at;
+    match chart_refusals::judge_call(chart, week, numbers, room) {
+        Judgement::Refused(refusal) => ChartAnswer::Refused(refusal),
+        Judgement::Fine => {
+            let s = chart_sets::set_of(numbers);
+            let values = chart_line::values_of(chart, week, s);
+            let end = chart_line::write_values(out, at, values);
+            ChartAnswer::Charted(values, end - at)
+        }
     }
 }
 
-// ---- the call
-
-// One set charted, its line written from position at on: judged first, written last.
+// One set of a text charted, its line written from position at on.
 pub fn chart_at(chart: Chart, week: u32, numbers: &[i32], out: &mut [u8], at: usize) -> ChartResult
     requires { ⌜ at ≤ length (now out) ⌝ }
     ensures { λ r. ⌜ r ≡ resultOf chart week (now (numbers .entry)) (length (now (out .entry)) - at) ⌝ }
     ensures { λ r. ⌜ Put (now (out .entry)) at (bytesOf (r .answer)) (now (out .exit)) (at + length (bytesOf (r .answer))) ⌝ }
 {
-    let room = out.len() - at;
-    match chart_refusals::judge_call(chart, week, numbers, room) {
-        Judgement::Refused(refusal) => ChartResult {
+    match answer_at(chart, week, numbers, out, at) {
+        ChartAnswer::Refused(refusal) => ChartResult {
             chart,
             answer: ChartAnswer::Refused(refusal),
         },
-        Judgement::Fine => {
-            let s = chart_sets::set_of(numbers);
-            let values = chart_line::values_of(chart, week, s);
-            let end = chart_line::write_values(out, at, values);
-            let next = chart_state::next_chart(chart, week, s);
+        ChartAnswer::Charted(values, length) => {
+            let next = chart_state::next_chart(chart, week, chart_line::set_in(values));
             ChartResult {
                 chart: next,
-                answer: ChartAnswer::Charted(values, end - at),
+                answer: ChartAnswer::Charted(values, length),
             }
         }
     }
 }
 
-// One set charted: its output line stands at the buffer's start, and no later byte is touched. A refused call writes nothing.
-pub fn chart_set(chart: Chart, week: u32, numbers: &[i32], out: &mut [u8]) -> ChartResult
-    ensures { λ r. ⌜ chartSetOf chart week (now (numbers .entry)) (now (out .entry)) ≡ record { result = r; buffer = now (out .exit) } ⌝ }
+// One set charted in its caller's places: its output line stands at the buffer's start, and no later byte is touched.
+// A refused call writes nothing.
+pub fn chart_set(state: &mut [i32], week: u32, numbers: &[i32], out: &mut [u8]) -> ChartAnswer
+    ensures { λ r. ⌜ record { answer = r; places = now (state .exit); buffer = now (out .exit) } ≡ chartSetIn (now (state .entry)) week (now (numbers .entry)) (now (out .entry)) ⌝ }
 {
-    chart_at(chart, week, numbers, out, 0)
+    let chart = chart_places::chart_at(state);
+    match answer_at(chart, week, numbers, out, 0) {
+        ChartAnswer::Refused(refusal) => ChartAnswer::Refused(refusal),
+        ChartAnswer::Charted(values, length) => {
+            chart_places::put_next(state, week, chart_line::set_in(values));
+            ChartAnswer::Charted(values, length)
+        }
+    }
 }

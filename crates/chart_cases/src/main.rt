@@ -1,6 +1,5 @@
 // Paper 01's chart cases that carry no star, run: four sets of sum 51 are a run, four of 50 are none. Each set's output line is written.
 use chart::ChartAnswer;
-use chart_state::Chart;
 use libc::STDOUT_FILENO;
 
 // Writes the first k bytes.
@@ -11,31 +10,24 @@ fn print_front(bytes: &[u8], k: usize) {
 }
 
 // One set charted, and its line written.
-fn charted(chart: Chart, week: u32, numbers: &[i32]) -> Chart {
+fn charted(state: &mut [i32; 15], week: u32, numbers: &[i32]) {
     let mut out = [0u8; 40];
-    let r = chart::chart_set(chart, week, numbers, &mut out);
-    let next = r.chart;
-    let answer = r.answer;
-    match answer {
-        ChartAnswer::Charted(_, length) => {
-            print_front(&out, length);
-            next
-        }
+    match chart::chart_set(state, week, numbers, &mut out) {
+        ChartAnswer::Charted(_, length) => print_front(&out, length),
         ChartAnswer::Refused(_) => {
             io::write_all(STDOUT_FILENO, b"refused\n");
-            next
         }
     }
 }
 
 // The same set in weeks 1 to 4, on a fresh chart of wheat.
 fn four(numbers: &[i32]) {
-    let opened = chart::open(0);
-    let fresh = opened.chart;
-    let one = charted(fresh, 1, numbers);
-    let two = charted(one, 2, numbers);
-    let three = charted(two, 3, numbers);
-    charted(three, 4, numbers);
+    let mut state = [0i32; 15];
+    chart::open(&mut state, 0);
+    charted(&mut state, 1, numbers);
+    charted(&mut state, 2, numbers);
+    charted(&mut state, 3, numbers);
+    charted(&mut state, 4, numbers);
 }
 
 fn main() {

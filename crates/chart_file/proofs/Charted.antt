@@ -40,7 +40,7 @@ use Rattle.chart_ruling.proofs.Rulings.{fine-next, fine-start, fine-first}
 use Rattle.chart_judge.proofs.Judging.{fine-text, one-or-none, not-one}
 use Rattle.chart_gather.proofs.Gathering.{finished-some, closed-start, closed-next, kept-start, kept-next}
 use Rattle.chart_file.proofs.Gathering.{first-sets, text-count, text-short}
-use Rattle.chart_file.proofs.Answering.{refused-answer, full-answer, written-fine}
+use Rattle.chart_file.proofs.Answering.{refused-answer, full-answer, written-fine, written-length}
 
 -- sample 1, or not
 one-or : (n : ℕ) (P : Type 0) → (n ≡ 1 → P) → ((n ≡ 1 → ⊥) → P) → P
@@ -234,10 +234,18 @@ text-below : (text : List ℕ) → AllBelow (textChecks text)
 unfolding AllBelow
 text-below text = (omega arith, (omega arith, lines-below 0 0 2 (valueLines text)))
 
+-- the output of a text that isn't refused by itself
+short-enough : (text : List ℕ) → firstRefusal (textChecks text) ≡ R.Fine → length (outputOf text) ≤ programRoom
+unfolding outputOf
+short-enough text e =
+    let g = fine-text text e .lines in
+    let f = few 0 0 (valueLines text) (omega arith) g in
+    omega (arith, length-append outputNames (textLines text), text-short text, text-count text g)
+
 -- the two ways of a text in the program's buffer
 text-cases : (text : List ℕ) (P : TextAnswer → Type 0) → ((r : TextRefusal) (line : ℕ) → numberOf r < 22 → P (Refused r line))
-    → (length (outputOf text) ≤ programRoom → P (Written (length (outputOf text)))) → P (answerOf text programRoom)
-unfolding judged NotShort outputOf
+    → P (Written (length (outputOf text))) → P (answerOf text programRoom)
+unfolding judged NotShort
 text-cases text P bad good = go (firstRefusal (textChecks text)) refl (below-first (textChecks text) (text-below text))
   where
     go : (x : Ruling) → firstRefusal (textChecks text) ≡ x → NotShort x → P (answerOf text programRoom)
@@ -245,8 +253,7 @@ text-cases text P bad good = go (firstRefusal (textChecks text)) refl (below-fir
         let g = fine-text text e .lines in
         let j : judged text ≡ Ver.Good (starts (valueLines text)) = ap (λ (y : Ruling). verdict y (starts (valueLines text))) e in
         let f = few 0 0 (valueLines text) (omega arith) g in
-        subst P (sym (full-answer text programRoom (starts (valueLines text)) j (omega arith)))
-        (good (omega (arith, length-append outputNames (textLines text), text-short text, text-count text g)))
+        subst P (sym (full-answer text programRoom (starts (valueLines text)) j (omega arith))) good
     go (R.Refused r line) e n =
         let j : judged text ≡ Ver.Refused r line = ap (λ (y : Ruling). verdict y (starts (valueLines text))) e in
         subst P (sym (refused-answer text programRoom r line j)) (bad r line n)
@@ -259,9 +266,6 @@ program-fits = record {
   never-short = λ text.
       text-cases text (λ a. textSays a .number ≡ some 22 → ⊥)
       (λ r line h e. omega (arith, some-same (numberOf r) 22 e))
-      (λ h e. let z : _≡_ {A = ℕ} 0 1 = cc in omega arith);
-  fits = λ text n.
-      text-cases text (λ a. a ≡ Written n → n ≤ programRoom)
-      (λ r line h e. let z : _≡_ {A = ℕ} 0 1 = cc in absurd (omega arith))
-      (λ h e. let l : length (outputOf text) ≡ n = cc in omega arith);
+      (λ e. let z : _≡_ {A = ℕ} 0 1 = cc in omega arith);
+  fits = λ text room n e. omega (arith, written-length text room n e, short-enough text (written-fine text room n e));
 }

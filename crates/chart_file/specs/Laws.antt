@@ -79,7 +79,7 @@ TextUntouched = (text buffer : List ℕ) (n : ℕ) → textSays (chartTextOf tex
 abbrev pub programRoom : ℕ
 programRoom = 400000
 
--- the program never answers 22: the output of every text that isn't refused fits its buffer
+-- the program never answers 22, and no output is longer than its buffer, whatever buffer it was written to
 pub record ProgramFits : Type 0 where
   pub never-short : (text : List ℕ) → textSays (answerOf text programRoom) .number ≡ some 22 → ⊥
-  pub fits : (text : List ℕ) (n : ℕ) → answerOf text programRoom ≡ Written n → n ≤ programRoom
+  pub fits : (text : List ℕ) (room n : ℕ) → answerOf text room ≡ Written n → n ≤ programRoom

@@ -23,10 +23,8 @@ fn write_sets(text: &[u8], out: &mut [u8], start: usize) -> usize
     requires { ⌜ start + 40 * length (textSets (now text)) ≤ length (now out) ⌝ }
     ensures { λ r. ⌜ Put (now (out .entry)) start (textLines (now (text .entry))) (now (out .exit)) r ⌝ }
 {
-    let opened = chart::open(0);
-    let fresh = opened.chart;
     let mut p = Progress {
-        chart: fresh,
+        chart: chart_state::fresh_chart(0),
         set: TextSet {
             week: 0,
             count: 0,

@@ -27,6 +27,10 @@ valuesOf c week s =
       rtl = rangeTolerance (limits .rtl) s (pastOf c);
     }
 
+-- the set whose line it is
+abbrev pub setIn : Values → ChartSet
+setIn v = record { count = v .count; sum = v .sum; range = v .range }
+
 -- the flags, 1 or 0, each after a space
 unfoldable pub flagBytes : Values → List ℕ
 flagBytes v = 32 ∷ bit (v .al) ∷ 32 ∷ bit (v .tl) ∷ 32 ∷ bit (v .run) ∷ 32 ∷ bit (v .ral) ∷ 32 ∷ bit (v .rtl) ∷ []

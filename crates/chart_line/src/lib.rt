@@ -7,7 +7,7 @@ ghost use lib.ListN.{length};
 ghost use Rattle.decimal.specs.Put.{Put};
 ghost use Rattle.chart_sets.specs.Soundness.{SetFits, AllFit};
 ghost use Rattle.chart_state.specs.Charts.{pastOf};
-ghost use Rattle.chart_line.specs.Lines.{valuesOf, flagBytes, lineOf, FiveDigits};
+ghost use Rattle.chart_line.specs.Lines.{valuesOf, setIn, flagBytes, lineOf, FiveDigits};
 
 // What an output line says.
 pub struct Values {
@@ -45,6 +45,17 @@ pub fn values_of(chart: Chart, week: u32, s: ChartSet) -> Values
         run,
         ral,
         rtl,
+    }
+}
+
+// The set whose line it is.
+pub fn set_in(v: Values) -> ChartSet
+    ensures { λ r. ⌜ r ≡ setIn v ⌝ }
+{
+    ChartSet {
+        count: v.count,
+        sum: v.sum,
+        range: v.range,
     }
 }
 

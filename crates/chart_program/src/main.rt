@@ -1,12 +1,14 @@
 // The chart program: a chart text from standard input; the wheat chart's output, or the refusal's line, to standard output.
+use libc::STDERR_FILENO;
 use libc::STDIN_FILENO;
 use libc::STDOUT_FILENO;
 
-// Writes the first k bytes.
-fn print_front(bytes: &[u8], k: usize) {
+// Writes the first k bytes; false where not all of them could be written.
+fn print_front(bytes: &[u8], k: usize) -> bool {
     if k <= bytes.len() {
-        io::write_all(STDOUT_FILENO, &bytes[0..k]);
+        return io::write_all(STDOUT_FILENO, &bytes[0..k]);
     }
+    false
 }
 
 fn main() {
@@ -16,5 +18,10 @@ fn main() {
     // chart_file's ProgramFits: the output of every text fits.
     let mut out = [0u8; 400000];
     let k = chart_print::print_text(&text[..n], &mut out);
-    print_front(&out, k);
+    if !print_front(&out, k) {
+        io::write_all(
+            STDERR_FILENO,
+            b"chart_program: the output could not be written\n",
+        );
+    }
 }

@@ -1,6 +1,7 @@
 // Which refusal applies to a call that charts one set.
 use chart_state::Chart;
 ghost use mathlib.Core.Path.{_≡_};
+ghost use Rattle.chart_refusals.specs.Refusals.{numberOf};
 ghost use Rattle.chart_refusals.specs.Checks.{refusalOf};
 
 // Numbers 0, 1 and 19 to 22.
@@ -11,6 +12,20 @@ pub enum Refusal {
     BadSize,
     BadResult,
     ShortBuffer,
+}
+
+// The paper's number of a refusal.
+pub fn number_of(refusal: Refusal) -> u32
+    ensures { λ r. ⌜ r ≡ numberOf refusal ⌝ }
+{
+    match refusal {
+        Refusal::UnsoundChart => 0,
+        Refusal::UnknownRow => 1,
+        Refusal::BadWeek => 19,
+        Refusal::BadSize => 20,
+        Refusal::BadResult => 21,
+        Refusal::ShortBuffer => 22,
+    }
 }
 
 pub enum Judgement {

@@ -32,7 +32,7 @@ fn limits_from(al: u32, tl: u32, run: u32, ral: u32, rtl: u32) -> Limits
 }
 
 // A row's limits; a row that doesn't exist has limits of 0.
-pub fn limits_of(row: usize) -> Limits
+pub fn limits_of(row: u32) -> Limits
     ensures { λ r. ⌜ r ≡ limitsOf row ⌝ }
 {
     match row {
@@ -83,7 +83,7 @@ fn both_beyond(limit: u32, s: ChartSet, p: ChartSet) -> bool
 }
 
 // This set and the one before it, the newest of the held ones.
-pub fn tolerance(limit: u32, s: ChartSet, held: usize, sets: [ChartSet; 4]) -> bool
+pub fn tolerance(limit: u32, s: ChartSet, held: u32, sets: [ChartSet; 4]) -> bool
     requires { ⌜ (limit ≤ 1000) × (SetFits s × AllFit (take held sets)) ⌝ }
     ensures { λ r. ⌜ r ≡ toleranceOf limit s (take held sets) ⌝ }
 {
@@ -93,7 +93,7 @@ pub fn tolerance(limit: u32, s: ChartSet, held: usize, sets: [ChartSet; 4]) -> b
     both_beyond(limit, s, sets[0])
 }
 
-pub fn range_tolerance(limit: u32, s: ChartSet, held: usize, sets: [ChartSet; 4]) -> bool
+pub fn range_tolerance(limit: u32, s: ChartSet, held: u32, sets: [ChartSet; 4]) -> bool
     ensures { λ r. ⌜ r ≡ rangeTolerance limit s (take held sets) ⌝ }
 {
     if held == 0 {

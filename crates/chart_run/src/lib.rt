@@ -72,7 +72,7 @@ fn run_by(limit: u32, s: ChartSet, p: ChartSet, q: ChartSet, w: ChartSet) -> boo
 }
 
 // This set and any three of the held ones.
-pub fn run(limit: u32, s: ChartSet, held: usize, sets: [ChartSet; 4]) -> bool
+pub fn run(limit: u32, s: ChartSet, held: u32, sets: [ChartSet; 4]) -> bool
     requires { ⌜ (limit ≤ 1000) × (SetFits s × AllFit (take held sets)) ⌝ }
     ensures { λ r. ⌜ r ≡ runOf limit s (take held sets) ⌝ }
 {

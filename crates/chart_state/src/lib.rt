@@ -3,7 +3,7 @@ use chart_sets::ChartSet;
 use whole::flags;
 ghost use mathlib.Core.Path.{_≡_};
 ghost use mathlib.Core.List.{_∷_};
-ghost use Prim.Native.Nat.{_+_, _≤_, min};
+ghost use Prim.Native.Nat.{_≤_};
 ghost use lib.ListN.{take};
 ghost use Rattle.whole.specs.Lists.{all};
 ghost use Rattle.chart_sets.specs.Soundness.{soundSet};
@@ -11,16 +11,16 @@ ghost use Rattle.chart_state.specs.Charts.{sound as soundOf, freshChart,
 
 // A chart: its row, its last week, and its held sets, newest first, in the first `held` places.
 pub struct Chart {
-    pub row: usize,
+    pub row: u32,
     pub week: u32,
-    pub held: usize,
+    pub held: u32,
     pub sets: [ChartSet; 4],
 }
 
 // ---- soundness
 
 // The first `held` of the sets are sound.
-fn all_sound(sets: [ChartSet; 4], held: usize) -> bool
+fn all_sound(sets: [ChartSet; 4], held: u32) -> bool
     ensures { λ r. ⌜ r ≡ all soundSet (take held sets) ⌝ }
 {
     let a = flags::either(held < 1, chart_sets::sound_set(sets[0]));
@@ -43,7 +43,7 @@ pub fn sound(chart: Chart) -> bool
 
 // ---- a fresh chart
 
-pub fn fresh_chart(row: usize) -> Chart
+pub fn fresh_chart(row: u32) -> Chart
     ensures { λ r. ⌜ r ≡ freshChart row ⌝ }
 {
     let blank = ChartSet {
@@ -68,14 +68,6 @@ fn shifted(s: ChartSet, sets: [ChartSet; 4]) -> [ChartSet; 4]
     [s, sets[0], sets[1], sets[2]]
 }
 
-// One more, and four at most.
-fn one_more(held: usize) -> usize
-    requires { ⌜ held ≤ 4 ⌝ }
-    ensures { λ r. ⌜ r ≡ min 4 (held + 1) ⌝ }
-{
-    if held < 4 { held + 1 } else { 4 }
-}
-
 // The chart with one set more, of which the newest four are held.
 pub fn next_chart(chart: Chart, week: u32, s: ChartSet) -> Chart
     requires { ⌜ chart .held ≤ 4 ⌝ }
@@ -83,7 +75,7 @@ pub fn next_chart(chart: Chart, week: u32, s: ChartSet) -> Chart
 {
     let old = chart.sets;
     let sets = shifted(s, old);
-    let held = one_more(chart.held);
+    let held = held_sets::one_more(chart.held);
     let row = chart.row;
     Chart {
         row,

@@ -34,7 +34,7 @@ pub fn up_to(high: u32, z: Int) -> bool
 }
 
 // The day of the newest set.
-pub fn newest_day(held: usize, past: [PastSet; 4]) -> u32
+pub fn newest_day(held: u32, past: [PastSet; 4]) -> u32
     requires { ⌜ Held held past ⌝ }
     ensures { λ r. ⌜ (r ≡ newestDay (take held past)) × (r ≤ 99999) ⌝ }
 {

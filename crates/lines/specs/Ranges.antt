@@ -1,11 +1,12 @@
 -- What a sound station's line gives, so that nothing wraps (paper 01, "Refused calls").
-use Prim.Native.Nat.{ℕ, _≤_}
+use Prim.Native.Nat.{ℕ, _≤_, _<_}
 use lib.Dec.{T}
 use lib.ListN.{take}
 use Rattle.whole.specs.Parts.{Within}
 use Rattle.rules.specs.Soundness.{daysFall}
 use Rattle.past_sets.specs.Ranges.{Held}
 use Rattle.rules.specs.declared.Line.{Line}
+use Rattle.rules.specs.declared.PastSet.{PastSet}
 
 pub record LineFits (l : Line) : Type 0 where
   pub small : Within 1000 1000 (l .intercept)
@@ -13,3 +14,9 @@ pub record LineFits (l : Line) : Type 0 where
   pub held : Held (l .held) (l .past)
   pub last : ℕ
   pub falls : T (daysFall last (take (l .held) (l .past)))
+
+-- a set whose numbers a place holds
+pub record SetFits (p : PastSet) : Type 0 where
+  pub day : p .day < 2147483648
+  pub sum : Within 132000 132000 (p .sum)
+  pub count : p .count < 2147483648

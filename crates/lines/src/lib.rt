@@ -1,172 +1,154 @@
-// A line between sheets (paper 01): the line after a sheet or a repair.
+// A line in its 15 places (paper 01, "A line between sheets"): read, and written after a sheet or a repair.
 use rules::Line;
 use rules::PastSet;
-use rules::Phase;
 use rules::Verdict;
 use whole::Int;
+use whole::places;
 ghost use mathlib.Core.Path.{_≡_};
-ghost use mathlib.Core.List.{_∷_, map};
-ghost use Prim.Native.Nat.{_≤_, _<_, suc, min};
-ghost use lib.ListN.{take, getD};
+ghost use Prim.Native.Nat.{_+_, _≤_};
+ghost use lib.ListN.{length};
 ghost use Rattle.whole.specs.Parts.{Within};
-ghost use Rattle.rules.specs.Held.{noSets, freshLine, joined, onlyPast, opened, closed, lineAfter, phaseHeld, repairedPhase, repairedLine};
-ghost use Rattle.lines.specs.Ranges.{LineFits};
+ghost use Rattle.whole.specs.Places.{place};
+ghost use Rattle.rules.specs.Places.{setAt, lineIn};
+ghost use Rattle.rules.specs.InPlace.{joinedPlaces, onlyPlaces, openedPlaces, closedPlaces, sheetLine, repairedPlaces};
+ghost use Rattle.rules.specs.Held.{phaseWord, phaseHeld};
+ghost use Rattle.lines.specs.Ranges.{SetFits};
+ghost use Rattle.lines.specs.Written.{emptied, phasePlace};
 
-fn no_sets() -> [PastSet; 4]
-    ensures { λ r. ⌜ r ≡ noSets ⌝ }
+// ---- read
+
+// The past set whose three places begin there.
+pub fn set_at(part: &[i32], at: usize) -> PastSet
+    requires { ⌜ at + 3 ≤ length (now part) ⌝ }
+    ensures { λ r. ⌜ r ≡ setAt (now (part .entry)) at ⌝ }
 {
-    let none = PastSet {
-        day: 0,
-        sum: 0,
-        count: 0,
-    };
-    [none, none, none, none]
+    let sum = places::number_at(part, at + 1);
+    PastSet {
+        day: places::natural_at(part, at),
+        sum: whole::bare(sum),
+        count: places::natural_at(part, at + 2),
+    }
 }
 
-pub fn fresh_line() -> Line
-    ensures { λ r. ⌜ r ≡ freshLine ⌝ }
+pub fn line_in(part: &[i32]) -> Line
+    requires { ⌜ length (now part) ≡ 15 ⌝ }
+    ensures { λ r. ⌜ r ≡ lineIn (now (part .entry)) ⌝ }
 {
-    let past = no_sets();
+    let intercept = places::number_at(part, 0);
+    let past = [
+        set_at(part, 3),
+        set_at(part, 6),
+        set_at(part, 9),
+        set_at(part, 12),
+    ];
     Line {
-        intercept: 0,
-        phase: Phase::New,
-        held: 0,
+        intercept: whole::bare(intercept),
+        phase: places::natural_at(part, 1),
+        held: places::natural_at(part, 2),
         past,
     }
 }
 
-// The line at a place.
-pub fn line_at(lines: [Line; 3], line: usize) -> Line
-    requires { ⌜ line < 3 ⌝ }
-    ensures { λ r. ⌜ r ≡ getD lines line freshLine ⌝ }
+// ---- written after a sheet
+
+// The line is open and the set joins the past.
+fn join(part: &mut [i32], p: PastSet)
+    requires { ⌜ length (now part) ≡ 15 ⌝ }
+    requires { ⌜ (lineIn (now part) .held ≤ 4) × (SetFits p) ⌝ }
+    ensures { λ r. ⌜ now (part .exit) ≡ joinedPlaces (now (part .entry)) p ⌝ }
 {
-    lines[line]
+    let held = held_sets::one_more(places::natural_at(part, 2));
+    places::put(part, 1, Int { z: 1 });
+    places::put(part, 2, whole::of_u32(held));
+    let day = whole::of_u32(p.day);
+    let count = whole::of_u32(p.count);
+    held_sets::join(&mut part[3..15], day, Int { z: p.sum }, count);
 }
 
-// Only the newest four are held.
-fn held_after(held: usize) -> usize
-    requires { ⌜ held ≤ 4 ⌝ }
-    ensures { λ r. ⌜ r ≡ min 4 (suc held) ⌝ }
+// Nothing is held and the past is blank.
+fn empty(part: &mut [i32])
+    requires { ⌜ length (now part) ≡ 15 ⌝ }
+    ensures { λ r. ⌜ now (part .exit) ≡ emptied (now (part .entry)) ⌝ }
 {
-    if held < 4 { held + 1 } else { 4 }
+    places::put(part, 2, Int { z: 0 });
+    held_sets::empty(&mut part[3..15]);
 }
 
-// A set before the newest three.
-fn shifted(p: PastSet, past: [PastSet; 4]) -> [PastSet; 4]
-    ensures { λ r. ⌜ r ≡ p ∷ take 3 past ⌝ }
+// The line is open with this set as its only past.
+fn begin(part: &mut [i32], p: PastSet)
+    requires { ⌜ length (now part) ≡ 15 ⌝ }
+    requires { ⌜ SetFits p ⌝ }
+    ensures { λ r. ⌜ now (part .exit) ≡ onlyPlaces (now (part .entry)) p ⌝ }
 {
-    [p, past[0], past[1], past[2]]
-}
-
-// The set joins the past.
-fn join(l: Line, p: PastSet) -> Line
-    requires { ⌜ l .held ≤ 4 ⌝ }
-    ensures { λ r. ⌜ r ≡ joined l p ⌝ }
-{
-    let past = l.past;
-    let next = shifted(p, past);
-    Line {
-        intercept: l.intercept,
-        phase: Phase::Open,
-        held: held_after(l.held),
-        past: next,
-    }
-}
-
-// The set is the only past.
-fn only_past(l: Line, p: PastSet) -> Line
-    ensures { λ r. ⌜ r ≡ onlyPast l p ⌝ }
-{
-    let none = PastSet {
-        day: 0,
-        sum: 0,
-        count: 0,
-    };
-    let next = [p, none, none, none];
-    Line {
-        intercept: l.intercept,
-        phase: Phase::Open,
-        held: 1,
-        past: next,
-    }
+    empty(part);
+    join(part, p);
 }
 
 // After a sheet that met every average due.
-fn open_line(l: Line, p: PastSet) -> Line
-    requires { ⌜ l .held ≤ 4 ⌝ }
-    ensures { λ r. ⌜ r ≡ opened (l .phase) l p ⌝ }
+fn open(part: &mut [i32], p: PastSet)
+    requires { ⌜ length (now part) ≡ 15 ⌝ }
+    requires { ⌜ (lineIn (now part) .held ≤ 4) × (SetFits p) ⌝ }
+    ensures { λ r. ⌜ now (part .exit) ≡ openedPlaces (phaseWord (lineIn (now (part .entry)) .phase)) (now (part .entry)) p ⌝ }
 {
-    let phase = l.phase;
-    match phase {
-        Phase::New => join(l, p),
-        Phase::Open => join(l, p),
-        Phase::CheckDue => only_past(l, p),
+    if places::natural_at(part, 1) < 2 {
+        join(part, p);
+    } else {
+        begin(part, p);
     }
 }
 
-// After a sheet that didn't: past sets go and the phase is check due.
-fn close_line(l: Line, v: Verdict) -> Line
-    requires { ⌜ (Within 1000 1000 (l .intercept)) × (Within 2000000 2000000 (v .change)) ⌝ }
-    ensures { λ r. ⌜ r ≡ closed l (v .change) ⌝ }
+// After a sheet that didn't.
+fn close(part: &mut [i32], change: Int)
+    requires { ⌜ length (now part) ≡ 15 ⌝ }
+    requires { ⌜ (Within 1000 1000 (place (now part) 0)) × (Within 2000000 2000000 (change .z)) ⌝ }
+    ensures { λ r. ⌜ now (part .exit) ≡ closedPlaces (now (part .entry)) (change .z) ⌝ }
 {
-    let past = no_sets();
-    let intercept = whole::add(Int { z: l.intercept }, Int { z: v.change });
-    Line {
-        intercept: intercept.z,
-        phase: Phase::CheckDue,
-        held: 0,
-        past,
-    }
+    let intercept = whole::add(places::number_at(part, 0), change);
+    places::put(part, 0, intercept);
+    places::put(part, 1, Int { z: 2 });
+    empty(part);
 }
 
-pub fn line_after(l: Line, p: PastSet, v: Verdict) -> Line
-    requires { ⌜ (LineFits l) × (Within 2000000 2000000 (v .change)) ⌝ }
-    ensures { λ r. ⌜ r ≡ lineAfter l p v ⌝ }
+// After a sheet: its set, and what that did to the line.
+pub fn enter_sheet(part: &mut [i32], p: PastSet, v: Verdict)
+    requires { ⌜ length (now part) ≡ 15 ⌝ }
+    requires { ⌜ (lineIn (now part) .held ≤ 4) × (SetFits p) ⌝ }
+    requires { ⌜ (Within 1000 1000 (place (now part) 0)) × (Within 2000000 2000000 (v .change)) ⌝ }
+    ensures { λ r. ⌜ now (part .exit) ≡ sheetLine (now (part .entry)) p v ⌝ }
 {
     if v.met {
-        open_line(l, p)
+        open(part, p);
     } else {
-        close_line(l, v)
+        close(part, Int { z: v.change });
     }
 }
 
-pub fn phase_after(v: Verdict) -> Phase
+pub fn phase_after(v: Verdict) -> u32
     ensures { λ r. ⌜ r ≡ phaseHeld v ⌝ }
 {
-    if v.met { Phase::Open } else { Phase::CheckDue }
+    if v.met { 1 } else { 2 }
 }
 
-// New and open lines become new; check due stays.
-fn repaired_phase(phase: Phase) -> Phase
-    ensures { λ r. ⌜ r ≡ repairedPhase phase ⌝ }
+// ---- written after a repair
+
+// New and open lines become new; any other phase stays.
+fn repaired_phase(part: &[i32]) -> Int
+    requires { ⌜ length (now part) ≡ 15 ⌝ }
+    ensures { λ r. ⌜ r .z ≡ phasePlace (now (part .entry)) ⌝ }
 {
-    match phase {
-        Phase::New => Phase::New,
-        Phase::Open => Phase::New,
-        Phase::CheckDue => Phase::CheckDue,
+    if places::natural_at(part, 1) < 2 {
+        Int { z: 0 }
+    } else {
+        places::number_at(part, 1)
     }
 }
 
 // A repair empties the past; the intercept stays.
-fn repaired_line(l: Line) -> Line
-    ensures { λ r. ⌜ r ≡ repairedLine l ⌝ }
+pub fn repair(part: &mut [i32])
+    requires { ⌜ length (now part) ≡ 15 ⌝ }
+    ensures { λ r. ⌜ now (part .exit) ≡ repairedPlaces (now (part .entry)) ⌝ }
 {
-    let past = no_sets();
-    let phase = l.phase;
-    Line {
-        intercept: l.intercept,
-        phase: repaired_phase(phase),
-        held: 0,
-        past,
-    }
-}
-
-pub fn repaired_lines(lines: [Line; 3]) -> [Line; 3]
-    ensures { λ r. ⌜ r ≡ map repairedLine lines ⌝ }
-{
-    [
-        repaired_line(lines[0]),
-        repaired_line(lines[1]),
-        repaired_line(lines[2]),
-    ]
+    let phase = repaired_phase(part);
+    places::put(part, 1, phase);
+    empty(part);
 }

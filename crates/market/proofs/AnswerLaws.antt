@@ -1,13 +1,15 @@
 -- Which answer a market test gets, by its tests in the order of their numbers.
-use mathlib.Core.Path.{_≡_, refl}
-use mathlib.Core.Bool.{true, false, not}
-use mathlib.Core.List.{_∷_}
+use mathlib.Core.Path.{_≡_, refl, sym, _∙_}
+use mathlib.Core.Bool.{Bool, true, false, not}
+use mathlib.Core.List.{List, _∷_}
 use mathlib.Core.Option.{Option, none, some}
 use Prim.Native.Nat.{ℕ, _≤_, _<_}
+use native.Mathlib.Omega.{arith}
+use lib.Dec.{ltb}
 use lib.Ieee.{Float}
 use lib.IntN.{ℤ, pos, _+ℤ_}
-use borrow.Author.Tests.{lt-ltb, le-ltb, not-true}
-use Rattle.whole.proofs.Tests.{to-true}
+use borrow.Author.Tests.{lt-ltb, le-ltb, ltb-false, not-true}
+use Rattle.whole.proofs.Tests.{to-true, or-none}
 use Rattle.reading.specs.Reading.{inRange, answerOf}
 use Rattle.reading.proofs.Laws.{answered, refused}
 use Rattle.reading.specs.declared.answer.Reading.{Reading}
@@ -17,16 +19,19 @@ use Rattle.rules.specs.Lines.{Values}
 use Rattle.rules.specs.Markets.{basisOf, correctedValue, within, marketChecks, certificateOf}
 use Rattle.rules.specs.Judging.{dayCheck, marketNumbers}
 use Rattle.rules.specs.Soundness.{sound, soundCheck}
-use Rattle.rules.specs.Stations.{valuesOf, marketResult, marketOf}
+use Rattle.rules.specs.Stations.{valuesOf, marketStation, marketResult, marketOf}
+use Rattle.rules.specs.Places.{stationIn}
+use Rattle.rules.specs.InPlace.{Left, withDay, marketLeft, marketIn}
 use Rattle.rules.specs.declared.Refusal.the-variants.{UnsoundStation, BadDay, UnknownLine, WrongScan, BadFloat, BadBasis, BadValue}
 use Rattle.rules.specs.declared.Scan.{Scan}
 use Rattle.rules.specs.declared.Basis.{Basis}
-use Rattle.rules.specs.declared.Station.{Station}
+use Rattle.rules.specs.Held.{Station}
 use Rattle.rules.specs.declared.Certificate.{Certificate}
-use Rattle.rules.specs.declared.MarketAnswer.the-variants.{Refused}
+use Rattle.rules.specs.declared.MarketAnswer.{MarketAnswer}
+use Rattle.rules.specs.declared.MarketAnswer.the-variants.{Certified, Refused}
 use Rattle.scans.specs.Scans.{pickedOf}
 use Rattle.certificates.specs.Certified.{answerBy, certifiedOf}
-use Rattle.market.specs.Answers.{valuedOf, testedOf, answeredOf, finished}
+use Rattle.market.specs.Answers.{valuedOf, testedOf, answeredOf}
 use Rattle.scans.specs.declared.Picked.the-variants.{Value, Wrong}
 use Rattle.scans.proofs.ScanLaws.{picked-value, picked-wrong}
 
@@ -90,10 +95,27 @@ module _ (s : Station) (day line : ℕ) (scan : Scan) (basis : Basis) where
 
   -- ---- the call
 
-  pub finish-is : finished s day (answeredOf s day line scan basis) ≡ marketOf s day line scan basis
+  pub answer-is : answeredOf s day line scan basis ≡ marketOf s day line scan basis .answer
   unfolding answeredOf marketOf
-  finish-is = go (firstNumber (soundCheck s ∷ marketNumbers (s .row) (s .day) (valuesOf s line) day line scan basis)) (certificateOf (s .row) (valuesOf s line) line scan basis)
+  answer-is = go (firstNumber (soundCheck s ∷ marketNumbers (s .row) (s .day) (valuesOf s line) day line scan basis)) (certificateOf (s .row) (valuesOf s line) line scan basis)
     where
-      go : (o : Option ℕ) (c : Certificate) → finished s day (answerBy o c) ≡ marketResult o s (record { row = s .row; day = day; lines = s .lines }) c
+      go : (o : Option ℕ) (c : Certificate) → answerBy o c ≡ marketResult o s (marketStation s day) c .answer
       go none c = refl
       go (some number) c = refl
+
+  -- a certified test's station is sound, and its day in its range
+  pub in-order : (c : Certificate) → Certified c ≡ answeredOf s day line scan basis → (sound s ≡ true) × (day ≤ 99999)
+  in-order c e = go (sound s) (dayCheck (s .day) day .applies) refl refl
+    where
+      go : (right bad : Bool) → sound s ≡ right → dayCheck (s .day) day .applies ≡ bad → (right ≡ true) × (day ≤ 99999)
+      go false bad r b = let q = e ∙ sym (answer-unsound r) in let z : _≡_ {A = ℕ} 0 1 = cc in absurd (omega arith)
+      go true true r b = let q = e ∙ sym (answer-day r b) in let z : _≡_ {A = ℕ} 0 1 = cc in absurd (omega arith)
+      go true false r b = (refl, ltb-false 99999 day (or-none (ltb day (s .day)) (ltb 99999 day) b .1))
+
+-- what the call leaves, by its answer
+pub left-by : (words : List ℤ) (day line : ℕ) (scan : Scan) (basis : Basis) (a : MarketAnswer) → a ≡ answeredOf (stationIn words) day line scan basis
+    → _≡_ {A = Left MarketAnswer} (record { answer = a; places = marketLeft a words (withDay words day) }) (marketIn words day line scan basis)
+unfolding marketIn
+left-by words day line scan basis a e =
+    let q = e ∙ answer-is (stationIn words) day line scan basis in
+    λ i. record { answer = q i; places = marketLeft (q i) words (withDay words day) }

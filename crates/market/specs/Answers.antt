@@ -11,10 +11,8 @@ use Rattle.rules.specs.Soundness.{soundCheck}
 use Rattle.rules.specs.Stations.{valuesOf}
 use Rattle.rules.specs.declared.Scan.{Scan}
 use Rattle.rules.specs.declared.Basis.{Basis}
-use Rattle.rules.specs.declared.Station.{Station}
+use Rattle.rules.specs.Held.{Station}
 use Rattle.rules.specs.declared.MarketAnswer.{MarketAnswer}
-use Rattle.rules.specs.declared.MarketAnswer.the-variants.{Certified, Refused}
-use Rattle.rules.specs.declared.MarketResult.{MarketResult}
 use Rattle.certificates.specs.Certified.{answerBy, certificateBy, lastChecks}
 
 -- numbers 10 to 14
@@ -32,8 +30,3 @@ testedOf row v day line scan basis = answerBy (firstNumber (marketChecks row v l
 unfoldable pub answeredOf : Station → ℕ → ℕ → Scan → Basis → MarketAnswer
 answeredOf s day line scan basis =
     answerBy (firstNumber (soundCheck s ∷ marketNumbers (s .row) (s .day) (valuesOf s line) day line scan basis)) (certificateOf (s .row) (valuesOf s line) line scan basis)
-
--- a certificate moves the station's day; a refusal moves nothing
-abbrev pub finished : Station → ℕ → MarketAnswer → MarketResult
-finished s day (Certified c) = record { station = record { row = s .row; day = day; lines = s .lines }; answer = Certified c }
-finished s day (Refused r) = record { station = s; answer = Refused r }

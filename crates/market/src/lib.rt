@@ -1,12 +1,11 @@
-// Market tests (paper 01, "Market test and moisture basis"): their numbers in order, and the call.
+// Market tests (paper 01, "Market test and moisture basis"): their numbers in order, and the call on a station in its caller's
+// places.
 use reading::Reading;
 use rules::Basis;
 use rules::Line;
 use rules::MarketAnswer;
-use rules::MarketResult;
 use rules::Refusal;
 use rules::Scan;
-use rules::Station;
 use scans::Picked;
 use whole::Int;
 ghost use mathlib.Core.Path.{_≡_};
@@ -15,12 +14,13 @@ ghost use lib.IntN.{pos, _+ℤ_};
 ghost use Rattle.rules.specs.Rows.{standardBasis};
 ghost use Rattle.rules.specs.Held.{lineValues};
 ghost use Rattle.rules.specs.Markets.{basisOf};
-ghost use Rattle.rules.specs.Stations.{marketOf};
+ghost use Rattle.rules.specs.Places.{stationIn};
+ghost use Rattle.rules.specs.InPlace.{marketIn};
 ghost use Rattle.lines.specs.Ranges.{LineFits};
-ghost use Rattle.market.specs.Answers.{valuedOf, testedOf, answeredOf, finished};
+ghost use Rattle.market.specs.Answers.{valuedOf, testedOf, answeredOf};
 
 // Numbers 10 to 14, of a reading n.
-fn judge_reading(row: usize, l: Line, day: u32, n: u32, basis: Basis) -> MarketAnswer
+fn judge_reading(row: u32, l: Line, day: u32, n: u32, basis: Basis) -> MarketAnswer
     requires { ⌜ (n ≤ 10000) × (LineFits l) ⌝ }
     ensures { λ r. ⌜ r ≡ valuedOf (standardBasis row) (lineValues l) day (basisOf (standardBasis row) basis) (pos n +ℤ l .intercept) ⌝ }
 {
@@ -37,7 +37,7 @@ fn judge_reading(row: usize, l: Line, day: u32, n: u32, basis: Basis) -> MarketA
 }
 
 // Numbers 8 to 14.
-fn judge_scan(row: usize, l: Line, day: u32, line: usize, scan: Scan, basis: Basis) -> MarketAnswer
+fn judge_scan(row: u32, l: Line, day: u32, line: usize, scan: Scan, basis: Basis) -> MarketAnswer
     requires { ⌜ LineFits l ⌝ }
     ensures { λ r. ⌜ r ≡ testedOf row (lineValues l) day line scan basis ⌝ }
 {
@@ -51,47 +51,33 @@ fn judge_scan(row: usize, l: Line, day: u32, line: usize, scan: Scan, basis: Bas
 }
 
 // All numbers of a market test: 0, 2, 3 and 8 to 14.
-fn answer(s: Station, day: u32, line: usize, scan: Scan, basis: Basis) -> MarketAnswer
-    ensures { λ r. ⌜ r ≡ answeredOf s day line scan basis ⌝ }
+fn answer(state: &[i32], day: u32, line: usize, scan: Scan, basis: Basis) -> MarketAnswer
+    ensures { λ r. ⌜ r ≡ answeredOf (stationIn (now (state .entry))) day line scan basis ⌝ }
 {
-    if !soundness::is_sound(s) {
+    if !soundness::is_sound(state) {
         return MarketAnswer::Refused(Refusal::UnsoundStation);
     }
-    if soundness::is_bad_day(s.day, day) {
+    if soundness::is_bad_day(station_places::day_of(state), day) {
         return MarketAnswer::Refused(Refusal::BadDay);
     }
-    if rows::line_count(s.row) <= line {
+    let row = station_places::row_of(state);
+    if rows::line_count(row) <= line {
         return MarketAnswer::Refused(Refusal::UnknownLine);
     }
-    let all = s.lines;
-    let l = lines::line_at(all, line);
-    judge_scan(s.row, l, day, line, scan, basis)
+    let l = station_places::line_of(state, line);
+    judge_scan(row, l, day, line, scan, basis)
 }
 
-// A certificate moves the station's day; a refusal moves nothing.
-fn finish(s: Station, day: u32, answer: MarketAnswer) -> MarketResult
-    ensures { λ r. ⌜ r ≡ finished s day answer ⌝ }
+// A certificate moves the station's day, and nothing else is written; a refusal writes nothing.
+pub fn market(state: &mut [i32], day: u32, line: usize, scan: Scan, basis: Basis) -> MarketAnswer
+    ensures { λ r. ⌜ record { answer = r; places = now (state .exit) } ≡ marketIn (now (state .entry)) day line scan basis ⌝ }
 {
-    let all = s.lines;
-    let next = Station {
-        row: s.row,
-        day,
-        lines: all,
-    };
-    match answer {
-        MarketAnswer::Certified(c) => MarketResult {
-            station: next,
-            answer: MarketAnswer::Certified(c),
-        },
-        MarketAnswer::Refused(r) => MarketResult {
-            station: s,
-            answer: MarketAnswer::Refused(r),
-        },
+    let given = answer(state, day, line, scan, basis);
+    match given {
+        MarketAnswer::Certified(c) => {
+            station_places::put_day(state, day);
+            MarketAnswer::Certified(c)
+        }
+        MarketAnswer::Refused(r) => MarketAnswer::Refused(r),
     }
-}
-
-pub fn market(s: Station, day: u32, line: usize, scan: Scan, basis: Basis) -> MarketResult
-    ensures { λ r. ⌜ r ≡ marketOf s day line scan basis ⌝ }
-{
-    finish(s, day, answer(s, day, line, scan, basis))
 }

@@ -1,11 +1,10 @@
 // A refusal's number in the paper, for what prints or hands it on.
 use rules::Refusal;
 ghost use mathlib.Core.Path.{_≡_};
-ghost use lib.IntN.{pos};
 ghost use Rattle.rules.specs.Refusals.{numberOf};
 
-pub fn number(r: Refusal) -> i32
-    ensures { λ n. ⌜ n ≡ pos (numberOf r) ⌝ }
+pub fn number(r: Refusal) -> u32
+    ensures { λ n. ⌜ n ≡ numberOf r ⌝ }
 {
     match r {
         Refusal::UnsoundStation => 0,

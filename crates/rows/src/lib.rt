@@ -10,26 +10,26 @@ pub fn row_exists(row: usize) -> bool
 }
 
 // Samples a sheet.
-pub fn sample_count(row: usize) -> u32
+pub fn sample_count(row: u32) -> u32
     ensures { λ r. ⌜ r ≡ samples row ⌝ }
 {
     if row == 0 { 6 } else { 4 }
 }
 
 // The standard basis A.
-pub fn standard_basis(row: usize) -> u32
+pub fn standard_basis(row: u32) -> u32
     ensures { λ r. ⌜ r ≡ standardBasis row ⌝ }
 {
     if row == 0 { 1200 } else { 0 }
 }
 
-pub fn line_count(row: usize) -> usize
+pub fn line_count(row: u32) -> usize
     ensures { λ r. ⌜ r ≡ lineCount row ⌝ }
 {
     if row == 0 { 1 } else { 3 }
 }
 
-pub fn limits_of(row: usize, line: usize) -> Limits
+pub fn limits_of(row: u32, line: usize) -> Limits
     ensures { λ r. ⌜ r ≡ limitsOf row line ⌝ }
 {
     if row == 0 {

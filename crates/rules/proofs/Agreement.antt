@@ -18,10 +18,10 @@ use Rattle.whole.proofs.Tests.{and-i, to-true, or-none, not-false-T}
 use Rattle.rules.specs.Rows.{rowExists, samples, lineCount, limitsOf}
 use Rattle.rules.specs.Refusals.{Check, firstNumber, numberOf, refusalOf}
 use Rattle.rules.specs.Sheets.{sheetChecks}
-use Rattle.rules.specs.Lines.{LinePhase, Values, pastSet, metEvery, phaseAfter}
+use Rattle.rules.specs.Lines.{Values, pastSet, phaseAfter}
 use Rattle.rules.specs.Markets.{certificateOf, marketChecks}
 use Rattle.rules.specs.Judging.{dayCheck, lineCheck, sheetNumbers, marketNumbers, repairNumbers, sheetSet, sheetVerdict}
-use Rattle.rules.specs.Held.{phaseWord, phaseHeld, freshLine, lineAfter, repairedLine}
+use Rattle.rules.specs.Held.{phaseWord, phaseCode, phaseHeld, repairedPhase, freshLine, lineAfter, repairedLine}
 use Rattle.rules.specs.Soundness.{sound, soundLine, soundSet, soundCheck}
 use Rattle.rules.specs.Stations.{freshStation, openOf, valuesOf, sheetStation, repairStation, marketStation, outcomeOf, sheetResult, sheetOf, repairResult, repairOf, marketResult, marketOf}
 use Rattle.rules.specs.Replies.{Reply, refusedBy, outcome, repaired, certificate, sheetReply, repairReply, marketReply}
@@ -33,17 +33,16 @@ use Rattle.rules.specs.declared.Outcome.{Outcome}
 use Rattle.rules.specs.declared.Certificate.{Certificate}
 use Rattle.rules.specs.declared.Scan.{Scan}
 use Rattle.rules.specs.declared.Basis.{Basis}
-use Rattle.rules.specs.declared.Phase.{Phase}
 use Rattle.rules.specs.declared.Line.{Line}
 use Rattle.rules.specs.declared.Set.{Set}
 use Rattle.rules.specs.declared.Verdict.{Verdict}
-use Rattle.rules.specs.declared.Station.{Station}
+use Rattle.rules.specs.Held.{Station}
 use Rattle.rules.proofs.Checks.{hasRefusal, known-number, none-head, none-tail, passed-over}
 use Rattle.whole.proofs.Elements.{all-take, all-at}
 use Rattle.rules.proofs.RowFacts.{row-facts}
 use Rattle.rules.proofs.NewestFour.{numbers-four, set-four, sheet-verdict-four, market-numbers-four, certificate-four}
 use Rattle.rules.proofs.SheetBounds.{Bounded, set-bounded}
-use Rattle.rules.proofs.BookValues.{repairedWord, other-values, met-values, unmet-values, repair-values}
+use Rattle.rules.proofs.BookValues.{other-values, met-values, unmet-values, repair-values}
 use Rattle.rules.proofs.Verdicts.{met-is-met, verdict-met, verdict-small}
 use Rattle.rules.proofs.Invariant.{LineAgrees, later-line, line-sound, fresh-line, after-met, after-unmet, after-repair}
 
@@ -198,7 +197,7 @@ module _ (b : Book) (ls : List Line) (a : Agrees ls b) where
       ∙ word (sheetVerdict (b .row) v day line numbers .met)
       ∙ ap phaseAfter (met-is-met (limitsOf (b .row) line) v day (sheetSet (b .row) v day line numbers))
     where
-      word : (m : Bool) → phaseWord (cond m Phase.Open Phase.CheckDue) ≡ phaseAfter m
+      word : (m : Bool) → phaseWord (phaseCode (phaseAfter m)) ≡ phaseAfter m
       word true = refl
       word false = refl
 
@@ -219,7 +218,7 @@ day-ok last day cs e =
     let f = or-none (ltb day last) (ltb 99999 day) (none-head (dayCheck last day) cs e) in
     (ltb-false day last (f .0), ltb-false 99999 day (f .1))
 
-line-ok : (row line : ℕ) (c : Check) (cs : List Check) → firstNumber (c ∷ lineCheck row line ∷ cs) ≡ none → line < lineCount row
+pub line-ok : (row line : ℕ) (c : Check) (cs : List Check) → firstNumber (c ∷ lineCheck row line ∷ cs) ≡ none → line < lineCount row
 line-ok row line c cs e =
     ltb→lt line (lineCount row) (not-false-T (ltb line (lineCount row)) (none-head (lineCheck row line) cs (none-tail c (lineCheck row line ∷ cs) e)))
 
@@ -349,7 +348,7 @@ module _ (b : Book) (ls : List Line) (a : Agrees ls b) where
           three = length-map ls repairedLine ∙ a .three;
           lines = λ i.
               subst⁻¹ (λ (w : Values). LineAgrees (samples (b .row)) day (getD (map repairedLine ls) i freshLine) w) (repair-values i day (b .entries))
-              (subst⁻¹ (λ (l : Line). LineAgrees (samples (b .row)) day l (record { intercept = bookValues i (b .entries) .intercept; phase = repairedWord (bookValues i (b .entries) .phase); past = [] }))
+              (subst⁻¹ (λ (l : Line). LineAgrees (samples (b .row)) day l (record { intercept = bookValues i (b .entries) .intercept; phase = repairedPhase (bookValues i (b .entries) .phase); past = [] }))
               (List·getD-map repairedLine ls i freshLine)
               (after-repair (samples (b .row)) (b .day) day (getD ls i freshLine) (bookValues i (b .entries)) (a .lines i) (d .0)));
         };

@@ -8,6 +8,7 @@ use native.Mathlib.Omega.{arith}
 use lib.Dec.{eqb}
 use lib.IntN.{_+ℤ_}
 use Rattle.rules.specs.Lines.{LinePhase, newLine, openLine, checkDueLine}
+use Rattle.rules.specs.Held.{repairedPhase}
 use Rattle.rules.specs.Books.{SheetEntry, Entry, sheetEntry, repairEntry, sheetsOf, newestTouching, isMetSheet, newestUnmet, entrySet, bookIntercept, bookPhase, bookPast, bookValues}
 
 module _ (line : ℕ) (e : SheetEntry) (es : List Entry) where
@@ -42,14 +43,8 @@ met-not-unmet line (sheetEntry e ∷ es) h = go (eqb (e .line) line) h (met-not-
     go false h ih = ih h
 met-not-unmet line (repairEntry d ∷ es) h = let q : _≡_ {A = ℕ} 0 1 = cc in absurd (omega arith)
 
--- a repair: new and open become new, check due stays
-abbrev pub repairedWord : LinePhase → LinePhase
-repairedWord newLine = newLine
-repairedWord openLine = newLine
-repairedWord checkDueLine = checkDueLine
-
 repaired-phase : (met unmet : Bool) → (met ≡ true → unmet ≡ false)
-    → cond unmet checkDueLine newLine ≡ repairedWord (cond met openLine (cond unmet checkDueLine newLine))
+    → cond unmet checkDueLine newLine ≡ repairedPhase (cond met openLine (cond unmet checkDueLine newLine))
 repaired-phase true unmet f = ap (λ (b : Bool). cond b checkDueLine newLine) (f refl)
 repaired-phase false true f = refl
 repaired-phase false false f = refl
@@ -57,7 +52,7 @@ repaired-phase false false f = refl
 -- a repair
 pub repair-values : (line d : ℕ) (es : List Entry)
     → bookValues line (repairEntry d ∷ es)
-    ≡ record { intercept = bookValues line es .intercept; phase = repairedWord (bookValues line es .phase); past = [] }
+    ≡ record { intercept = bookValues line es .intercept; phase = repairedPhase (bookValues line es .phase); past = [] }
 unfolding bookValues bookIntercept bookPhase bookPast
 repair-values line d es =
     ap (λ (p : LinePhase). record { intercept = bookIntercept line es; phase = p; past = [] })

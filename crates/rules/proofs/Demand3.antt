@@ -10,26 +10,26 @@ use lib.IntN.{ℤ, pos, natAbs, _+ℤ_}
 use lib.Signed.{yes-nonNeg, pos-natAbs}
 use Rattle.reading.specs.Reading.{readingOf}
 use Rattle.reading.proofs.Laws.{reading-laws}
-use Rattle.whole.specs.Lists.{all}
 use Rattle.rules.specs.Rows.{rowExists, standardBasis}
 use Rattle.rules.specs.Readings.{lineFloat}
-use Rattle.rules.specs.Refusals.{Check}
 use Rattle.rules.specs.Sheets.{sheetChecks}
 use Rattle.rules.specs.Markets.{basisOf, certificateOf, correctedValue, marketChecks}
 use Rattle.rules.specs.Judging.{sheetNumbers, marketNumbers, repairNumbers}
-use Rattle.rules.specs.Held.{freshLine}
+use Rattle.rules.specs.Held.{Station, freshLine}
 use Rattle.rules.specs.Soundness.{daysFall}
-use Rattle.rules.specs.Stations.{freshStation}
+use Rattle.rules.specs.Stations.{Opening, freshStation}
 use Rattle.rules.specs.Replies.{Reply, refusedBy, certificate}
 use Rattle.rules.specs.Calls.{Call, sheetCall, repairCall, marketCall, replies}
 use Rattle.rules.specs.Books.{Book, freshBook, bookIntercept, bookPast, bookValues, bookNumber, grantedReply, orRefused, bookReply, bookReplies, bookAfterAll}
+use Rattle.rules.specs.InPlace.{openIn}
 use Rattle.rules.specs.Demand3.{MarketConditions, WithinDistance, changesGiven, MarketClaim, Demand3}
 use Rattle.rules.specs.declared.Scan.{Scan}
 use Rattle.rules.specs.declared.Basis.{Basis}
 use Rattle.rules.specs.declared.Certificate.{Certificate}
 use Rattle.rules.proofs.Checks.{number-passes}
 use Rattle.rules.proofs.RowFacts.{row-facts}
-use Rattle.rules.proofs.Agreement.{agrees, reached, fresh-agrees, stays-sound}
+use Rattle.rules.proofs.Agreement.{agrees, reached, fresh-agrees, stays-sound, opens-fresh}
+use Rattle.rules.proofs.InPlace.{holds-station, as-held}
 use Rattle.rules.proofs.Distance.{within}
 use Rattle.rules.proofs.Conditions.{conditions-from, conditions-to, rests-on}
 use Rattle.rules.proofs.Changes.{changes, row-after-all, reply-at}
@@ -166,6 +166,8 @@ module _ (row : ℕ) (exists : T (rowExists row)) where
 pub demand3 : (row : ℕ) → T (rowExists row) → (calls : List Call) → Demand3 row calls
 demand3 row exists calls =
     record {
+      inPlace = as-held (openIn row .places) calls .answers
+          ∙ ap (λ (s : Station). replies s calls) (holds-station .opening row ∙ ap (λ (o : Opening). o .station) (opens-fresh row exists));
       answers = agrees row exists calls;
       sound = λ before after split. stays-sound row exists before;
       never0 = λ before after c split e.

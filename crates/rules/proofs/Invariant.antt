@@ -11,16 +11,14 @@ use lib.IntN.{pos, natAbs, _+ℤ_, +ℤ-comm, +ℤ-idl}
 use lib.Ieee.Fits.{eq→eqb}
 use Rattle.whole.specs.Lists.{all}
 use Rattle.rules.specs.Lines.{LinePhase, newLine, openLine, checkDueLine, Values, soundIntercept}
-use Rattle.rules.specs.Held.{phaseWord, freshLine, lineValues, joined, onlyPast, opened, lineAfter, repairedPhase, repairedLine}
-use Rattle.rules.specs.Soundness.{daysFall, soundSet, soundHeld, soundLine}
-use Rattle.rules.specs.declared.Phase.{Phase}
-use Rattle.rules.specs.declared.Phase.the-variants.{New, Open, CheckDue}
+use Rattle.rules.specs.Held.{phaseExists, phaseWord, freshLine, lineValues, joined, onlyPast, opened, lineAfter, repairedPhase, repairedLine}
+use Rattle.rules.specs.Soundness.{daysFall, soundSet, heldIn, soundHeld, soundLine}
 use Rattle.rules.specs.declared.PastSet.{PastSet}
 use Rattle.rules.specs.declared.Line.{Line}
 use Rattle.whole.proofs.Tests.{and-i}
 use Rattle.whole.proofs.Elements.{all-take, take-min}
+use Rattle.rules.proofs.Phases.{repaired-word, repaired-known}
 use Rattle.rules.proofs.NewestFour.{newestFour, falls-later, falls-take}
-use Rattle.rules.proofs.BookValues.{repairedWord}
 use Rattle.rules.specs.declared.Verdict.{Verdict}
 
 -- an open line has past sets and any other none
@@ -39,6 +37,7 @@ pub record Good (n day : ℕ) (v : Values) : Type 0 where
 -- a station's line holds the values with the newest four past sets, and these values are sound
 pub record LineAgrees (n day : ℕ) (l : Line) (v : Values) : Type 0 where
   pub same : lineValues l ≡ newestFour v
+  pub known : T (phaseExists (l .phase))
   pub room : l .held ≤ 4
   pub full : length (l .past) ≡ 4
   pub good : Good n day v
@@ -47,7 +46,7 @@ pub later-good : (n d e : ℕ) (v : Values) → d ≤ e → Good n d v → Good 
 later-good n d e v h g = record { small = g .small; falls = falls-later d e (v .past) h (g .falls); sets = g .sets; fits = g .fits }
 
 pub later-line : (n d e : ℕ) (l : Line) (v : Values) → d ≤ e → LineAgrees n d l v → LineAgrees n e l v
-later-line n d e l v h a = record { same = a .same; room = a .room; full = a .full; good = later-good n d e v h (a .good) }
+later-line n d e l v h a = record { same = a .same; known = a .known; room = a .room; full = a .full; good = later-good n d e v h (a .good) }
 
 -- ---- number 0 doesn't apply
 
@@ -56,7 +55,7 @@ held-is n d l v a =
     sym (length-take-le (l .held) (l .past) (rw (a .full) (a .room)))
     ∙ ap (λ (w : Values). length (w .past)) (a .same) ∙ length-take 4 (v .past)
 
-held-sound : (phase : LinePhase) (held : ℕ) (past : List PastSet) → held ≡ min 4 (length past) → PastFits phase past → T (soundHeld phase held)
+held-sound : (phase : LinePhase) (held : ℕ) (past : List PastSet) → held ≡ min 4 (length past) → PastFits phase past → T (heldIn phase held)
 held-sound newLine held past e f = eq→eqb {a = held} {b = 0} (omega (arith, ap length f))
 held-sound openLine held past e f = and-i (leb 1 held) (leb held 4) (le→leb 1 held (omega arith)) (le→leb held 4 (omega arith))
 held-sound checkDueLine held past e f = eq→eqb {a = held} {b = 0} (omega (arith, ap length f))
@@ -64,12 +63,13 @@ held-sound checkDueLine held past e f = eq→eqb {a = held} {b = 0} (omega (arit
 pub line-sound : (n d : ℕ) (l : Line) (v : Values) → LineAgrees n d l v → T (soundLine n d l)
 unfolding soundLine
 line-sound n d l v a =
-    and-i (soundIntercept (l .intercept) && soundHeld (phaseWord (l .phase)) (l .held) && daysFall d (lineValues l .past)) (all (soundSet n) (lineValues l .past))
-    (and-i (soundIntercept (l .intercept) && soundHeld (phaseWord (l .phase)) (l .held)) (daysFall d (lineValues l .past))
-    (and-i (soundIntercept (l .intercept)) (soundHeld (phaseWord (l .phase)) (l .held))
+    and-i (soundIntercept (l .intercept) && soundHeld (l .phase) (l .held) && daysFall d (lineValues l .past)) (all (soundSet n) (lineValues l .past))
+    (and-i (soundIntercept (l .intercept) && soundHeld (l .phase) (l .held)) (daysFall d (lineValues l .past))
+    (and-i (soundIntercept (l .intercept)) (soundHeld (l .phase) (l .held))
     (subst⁻¹ (λ (w : Values). T (soundIntercept (w .intercept))) (a .same) (le→leb (natAbs (v .intercept)) 1000 (a .good .small)))
-    (subst⁻¹ (λ (w : Values). T (soundHeld (w .phase) (l .held))) (a .same)
-    (held-sound (v .phase) (l .held) (v .past) (held-is n d l v a) (a .good .fits))))
+    (and-i (phaseExists (l .phase)) (heldIn (phaseWord (l .phase)) (l .held)) (a .known)
+    (subst⁻¹ (λ (w : Values). T (heldIn (w .phase) (l .held))) (a .same)
+    (held-sound (v .phase) (l .held) (v .past) (held-is n d l v a) (a .good .fits)))))
     (subst⁻¹ (λ (w : Values). T (daysFall d (w .past))) (a .same) (falls-take 4 d (v .past) (a .good .falls))))
     (subst⁻¹ (λ (w : Values). T (all (soundSet n) (w .past))) (a .same) (all-take (soundSet n) 4 (v .past) (a .good .sets)))
 
@@ -79,6 +79,7 @@ pub fresh-line : (n d : ℕ) → LineAgrees n d freshLine (record { intercept = 
 fresh-line n d =
     record {
       same = refl;
+      known = tt;
       room = omega arith;
       full = refl;
       good = record { small = omega arith; falls = tt; sets = tt; fits = refl };
@@ -119,6 +120,7 @@ module _ (n d day : ℕ) (l : Line) (v : Values) (a : LineAgrees n d l v) (later
             phase = openLine;
             past = join-past p (l .held) (l .past) (v .past) (ap (λ (w : Values). w .past) (a .same)) i;
           };
+          known = tt;
           room = omega arith;
           full = ap suc (length-take 3 (l .past) ∙ omega (arith, a .full));
           good = met-good;
@@ -132,22 +134,23 @@ module _ (n d day : ℕ) (l : Line) (v : Values) (a : LineAgrees n d l v) (later
             phase = openLine;
             past = ap (λ (r : List PastSet). p ∷ take 3 r) (sym none′) i;
           };
+          known = tt;
           room = omega arith;
           full = refl;
           good = met-good;
         }
 
-    opened-agrees : (phase : Phase) → phaseWord phase ≡ v .phase
+    opened-agrees : (phase : LinePhase) → phase ≡ v .phase
         → LineAgrees n day (opened phase l p) (record { intercept = v .intercept; phase = openLine; past = p ∷ v .past })
-    opened-agrees New e = joined-agrees
-    opened-agrees Open e = joined-agrees
-    opened-agrees CheckDue e = only-agrees (subst⁻¹ (λ (ph : LinePhase). PastFits ph (v .past)) e (a .good .fits))
+    opened-agrees newLine e = joined-agrees
+    opened-agrees openLine e = joined-agrees
+    opened-agrees checkDueLine e = only-agrees (subst⁻¹ (λ (ph : LinePhase). PastFits ph (v .past)) e (a .good .fits))
 
     -- the line after a set that met
     pub after-met : (verdict : Verdict) → verdict .met ≡ true → verdict .change ≡ pos 0
         → LineAgrees n day (lineAfter l p verdict) (record { intercept = verdict .change +ℤ v .intercept; phase = openLine; past = p ∷ v .past })
     after-met verdict m c =
-        rw (m, c, +ℤ-idl (v .intercept)) (opened-agrees (l .phase) (ap (λ (w : Values). w .phase) (a .same)))
+        rw (m, c, +ℤ-idl (v .intercept)) (opened-agrees (phaseWord (l .phase)) (ap (λ (w : Values). w .phase) (a .same)))
 
   -- the line after a set that didn't meet
   pub after-unmet : (p : PastSet) (verdict : Verdict) → verdict .met ≡ false → natAbs (v .intercept +ℤ verdict .change) ≤ 1000
@@ -156,30 +159,27 @@ module _ (n d day : ℕ) (l : Line) (v : Values) (a : LineAgrees n d l v) (later
       rw (m, +ℤ-comm (verdict .change) (v .intercept))
       (record {
         same = λ i. record { intercept = a .same i .intercept +ℤ verdict .change; phase = checkDueLine; past = [] };
+        known = tt;
         room = omega arith;
         full = refl;
         good = record { small = h; falls = tt; sets = tt; fits = refl };
       })
 
-  repaired-fits : (phase : LinePhase) → PastFits (repairedWord phase) []
+  repaired-fits : (phase : LinePhase) → PastFits (repairedPhase phase) []
   repaired-fits newLine = refl
   repaired-fits openLine = refl
   repaired-fits checkDueLine = refl
 
-  repaired-word : (phase : Phase) → phaseWord (repairedPhase phase) ≡ repairedWord (phaseWord phase)
-  repaired-word New = refl
-  repaired-word Open = refl
-  repaired-word CheckDue = refl
-
   -- the line after a repair
-  pub after-repair : LineAgrees n day (repairedLine l) (record { intercept = v .intercept; phase = repairedWord (v .phase); past = [] })
+  pub after-repair : LineAgrees n day (repairedLine l) (record { intercept = v .intercept; phase = repairedPhase (v .phase); past = [] })
   after-repair =
       record {
         same = λ i. record {
           intercept = a .same i .intercept;
-          phase = (repaired-word (l .phase) ∙ ap (λ (w : Values). repairedWord (w .phase)) (a .same)) i;
+          phase = (repaired-word (l .phase) ∙ ap (λ (w : Values). repairedPhase (w .phase)) (a .same)) i;
           past = [];
         };
+        known = repaired-known (l .phase) (a .known);
         room = omega arith;
         full = refl;
         good = record { small = a .good .small; falls = tt; sets = tt; fits = repaired-fits (v .phase) };

@@ -3,6 +3,7 @@ pub mod Checks
 pub mod RowFacts
 pub mod Magnitudes
 pub mod SheetBounds
+pub mod Phases
 pub mod NewestFour
 pub mod BookValues
 pub mod Verdicts
@@ -11,6 +12,7 @@ pub mod Agreement
 pub mod Distance
 pub mod Conditions
 pub mod Changes
+pub mod InPlace
 pub mod Demand3
 pub mod Figures
 pub mod Order

@@ -6,7 +6,7 @@ use Rattle.rules.specs.Stations.{sheetOf, repairOf, marketOf}
 use Rattle.rules.specs.Replies.{Reply, sheetReply, repairReply, marketReply}
 use Rattle.rules.specs.declared.Scan.{Scan}
 use Rattle.rules.specs.declared.Basis.{Basis}
-use Rattle.rules.specs.declared.Station.{Station}
+use Rattle.rules.specs.Held.{Station}
 
 -- a call's arguments other than the station
 pub data Call : Type 0 where

@@ -20,6 +20,7 @@ use Rattle.rules.specs.Stations.{freshStation}
 use Rattle.rules.specs.Replies.{Reply, refusedBy, opening, outcome, repaired, certificate}
 use Rattle.rules.specs.Calls.{Call, sheetCall, repairCall, marketCall, replies, stationAfterAll}
 use Rattle.rules.specs.Books.{Book, SheetEntry, sheetEntry, freshBook, newestTouching, bookIntercept, bookPhase, bookPast, bookReplies, bookAfterAll}
+use Rattle.rules.specs.InPlace.{openIn, repliesIn}
 use Rattle.rules.specs.declared.Scan.{Scan}
 use Rattle.rules.specs.declared.Basis.{Basis}
 
@@ -114,6 +115,8 @@ module _ (row : ℕ) (before : List Call) (day line : ℕ) (scan : Scan) (basis 
 
 -- demand 3 of a list of calls
 pub record Demand3 (row : ℕ) (calls : List Call) : Type 0 where
+  -- the calls as they run, each on the places that the call before left, from those of an opening, are answered as those on the station
+  pub inPlace : repliesIn (openIn row .places) calls ≡ replies (freshStation row) calls
   -- each call is answered as the book answers it
   pub answers : replies (freshStation row) calls ≡ bookReplies (freshBook row) calls
   -- number 0 never applies: the station is sound before each call of the list, and no reply is that number

@@ -15,7 +15,7 @@ use Rattle.rules.specs.declared.Limits.{Limits}
 use Rattle.rules.specs.declared.Set.{Set}
 use Rattle.rules.specs.declared.Scan.{Scan}
 use Rattle.rules.specs.declared.Basis.{Basis}
-use Rattle.rules.specs.declared.Station.{Station}
+use Rattle.rules.specs.Held.{Station}
 use Rattle.rules.specs.declared.OpenAnswer.{OpenAnswer}
 
 -- an opening of an existing row hands back its fresh station

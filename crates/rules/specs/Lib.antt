@@ -1,4 +1,4 @@
--- Paper 01's rules for stations, one file for each of its sections; then lists of calls, the book, and demand 3.
+-- Paper 01's rules for stations, one file for each of its sections; then lists of calls and the book; the calls on a station that lies in its caller's places; and demand 3.
 pub mod Lists
 pub mod Rows
 pub mod Refusals
@@ -13,6 +13,8 @@ pub mod Stations
 pub mod Replies
 pub mod Calls
 pub mod Books
+pub mod Places
+pub mod InPlace
 pub mod Demand3
 pub mod Laws
 pub mod Cases

@@ -9,16 +9,20 @@ use Rattle.whole.specs.Lists.{all}
 use Rattle.rules.specs.Rows.{rowExists, samples, lineCount}
 use Rattle.rules.specs.Refusals.{Check}
 use Rattle.rules.specs.Lines.{LinePhase, newLine, openLine, checkDueLine, soundIntercept}
-use Rattle.rules.specs.Held.{lineValues}
+use Rattle.rules.specs.Held.{phaseExists, phaseWord, lineValues}
 use Rattle.rules.specs.declared.PastSet.{PastSet}
 use Rattle.rules.specs.declared.Line.{Line}
-use Rattle.rules.specs.declared.Station.{Station}
+use Rattle.rules.specs.Held.{Station}
 
 -- an open line has one to four past sets and any other none
-abbrev pub soundHeld : LinePhase → ℕ → Bool
-soundHeld newLine held = eqb held 0
-soundHeld openLine held = leb 1 held && leb held 4
-soundHeld checkDueLine held = eqb held 0
+abbrev pub heldIn : LinePhase → ℕ → Bool
+heldIn newLine held = eqb held 0
+heldIn openLine held = leb 1 held && leb held 4
+heldIn checkDueLine held = eqb held 0
+
+-- and its phase is one that there is
+abbrev pub soundHeld : (phase held : ℕ) → Bool
+soundHeld phase held = phaseExists phase && heldIn (phaseWord phase) held
 
 -- their days never rise from newest to oldest nor pass the station's day
 abbrev pub daysFall : ℕ → List PastSet → Bool
@@ -33,7 +37,7 @@ soundSet n p =
 -- a line of a station with that day, whose row has n samples
 unfoldable pub soundLine : (n day : ℕ) → Line → Bool
 soundLine n day l =
-    soundIntercept (l .intercept) && soundHeld (lineValues l .phase) (l .held)
+    soundIntercept (l .intercept) && soundHeld (l .phase) (l .held)
     && daysFall day (lineValues l .past) && all (soundSet n) (lineValues l .past)
 
 -- its row exists, its day is 0..99999, and its row's lines are sound

@@ -17,15 +17,28 @@ use Rattle.rules.specs.declared.Basis.{Basis}
 use Rattle.rules.specs.declared.Line.{Line}
 use Rattle.rules.specs.declared.Outcome.{Outcome}
 use Rattle.rules.specs.declared.Certificate.{Certificate}
-use Rattle.rules.specs.declared.Station.{Station}
+use Rattle.rules.specs.Held.{Station}
 use Rattle.rules.specs.declared.OpenAnswer.{OpenAnswer}
 use Rattle.rules.specs.declared.SheetAnswer.{SheetAnswer}
 use Rattle.rules.specs.declared.RepairAnswer.{RepairAnswer}
 use Rattle.rules.specs.declared.MarketAnswer.{MarketAnswer}
-use Rattle.rules.specs.declared.Opening.{Opening}
-use Rattle.rules.specs.declared.SheetResult.{SheetResult}
-use Rattle.rules.specs.declared.RepairResult.{RepairResult}
-use Rattle.rules.specs.declared.MarketResult.{MarketResult}
+
+-- what a call leaves: the station, and what it answers
+pub record Opening : Type 0 where
+  pub station : Station
+  pub answer : OpenAnswer
+
+pub record SheetResult : Type 0 where
+  pub station : Station
+  pub answer : SheetAnswer
+
+pub record RepairResult : Type 0 where
+  pub station : Station
+  pub answer : RepairAnswer
+
+pub record MarketResult : Type 0 where
+  pub station : Station
+  pub answer : MarketAnswer
 
 -- a fresh station: its row, fresh lines, day 0
 abbrev pub freshStation : ℕ → Station

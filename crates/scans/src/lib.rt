@@ -24,7 +24,7 @@ fn corn_value(c: CornSet, line: usize) -> f32
 }
 
 // The scan's float of a line, where the scan is of the row's grain.
-pub fn pick(row: usize, scan: Scan, line: usize) -> Picked
+pub fn pick(row: u32, scan: Scan, line: usize) -> Picked
     ensures { λ r. ⌜ r ≡ pickedOf row scan line ⌝ }
 {
     match scan {

@@ -14,14 +14,14 @@ use Rattle.whole.proofs.PartLaws.{sizeParts}
 use Rattle.whole.proofs.Tests.{and-l, and-r, of-true, to-true}
 use Rattle.rules.specs.Rows.{samples, lineCount, rowExists}
 use Rattle.rules.specs.Lines.{soundIntercept}
-use Rattle.rules.specs.Held.{noSet, freshLine, phaseWord}
+use Rattle.rules.specs.Held.{noSet, freshLine}
 use Rattle.rules.specs.Soundness.{daysFall, soundSet, soundHeld, soundLine, sound}
 use Rattle.rules.specs.Stations.{lineOf}
 use Rattle.whole.proofs.Elements.{at-all}
 use Rattle.rules.proofs.RowFacts.{row-facts}
 use Rattle.rules.specs.declared.PastSet.{PastSet}
 use Rattle.rules.specs.declared.Line.{Line}
-use Rattle.rules.specs.declared.Station.{Station}
+use Rattle.rules.specs.Held.{Station}
 use Rattle.past_sets.specs.Ranges.{SetsOf}
 use Rattle.lines.specs.Ranges.{LineFits}
 use Rattle.soundness.proofs.SoundLaws.{held-most}
@@ -62,14 +62,14 @@ unfolding soundLine
 line-sound n day l h d t =
     let past = take (l .held) (l .past) in
     let small = soundIntercept (l .intercept) in
-    let room = soundHeld (phaseWord (l .phase)) (l .held) in
+    let room = soundHeld (l .phase) (l .held) in
     let t3 = and-l (small && room && daysFall day past) (all (soundSet n) past) t in
     let t2 = and-l (small && room) (daysFall day past) t3 in
     let sets = and-r (small && room && daysFall day past) (all (soundSet n) past) t in
     let falls = and-r (small && room) (daysFall day past) t3 in
     record {
       small = size-within 1000 (l .intercept) (leb→le (natAbs (l .intercept)) 1000 (and-l small room t2));
-      room = held-most (phaseWord (l .phase)) (l .held) (to-true room (and-r small room t2));
+      room = held-most (l .phase) (l .held) (to-true room (and-r small room t2));
       held = record {
         each = λ j k.
             let e = getD-take (l .held) (l .past) j noSet k in

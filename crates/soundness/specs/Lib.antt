@@ -1,1 +1,1 @@
-pub mod Fall
+pub mod Past

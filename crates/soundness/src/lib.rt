@@ -1,25 +1,19 @@
-// Numbers 0 and 2, which look at the station alone: whether a station handed in is sound, and whether a call's day serves (paper 01, "Refused calls").
-use rules::Line;
+// Numbers 0 and 2, which look at the station alone: whether what stands in the places is a sound station, and whether a call's day serves (paper 01,
+// "Refused calls").
 use rules::PastSet;
-use rules::Phase;
-use rules::Station;
 use whole::Int;
 use whole::flags;
+use whole::places;
 ghost use mathlib.Core.Path.{_≡_};
 ghost use mathlib.Core.Bool.{_&&_};
 ghost use Prim.Native.Nat.{_≤_};
-ghost use lib.ListN.{take};
+ghost use lib.Dec.{leb};
+ghost use lib.ListN.{length, take};
 ghost use Rattle.whole.specs.Lists.{all};
-ghost use Rattle.rules.specs.Held.{phaseWord};
 ghost use Rattle.rules.specs.Judging.{dayCheck};
-ghost use Rattle.rules.specs.Soundness.{daysFall, soundSet, soundHeld, soundLine, sound};
-ghost use Rattle.soundness.specs.Fall.{fallen};
-
-// The day of the set before, and whether the sets so far are sound and their days never rose.
-pub struct Fall {
-    pub day: u32,
-    pub ok: bool,
-}
+ghost use Rattle.rules.specs.Soundness.{soundSet, soundHeld, soundLine, sound};
+ghost use Rattle.rules.specs.Places.{lineIn, stationIn};
+ghost use Rattle.soundness.specs.Past.{soundPast};
 
 // N is even from 2 to twice the samples n, and |S| is at most 11000 times N.
 fn sound_set(n: u32, p: PastSet) -> bool
@@ -38,86 +32,96 @@ fn sound_set(n: u32, p: PastSet) -> bool
     whole::size_at_most(Int { z: p.sum }, 11000 * p.count)
 }
 
-// An open line has one to four past sets and any other none.
-fn sound_held(phase: Phase, held: usize) -> bool
-    ensures { λ r. ⌜ r ≡ soundHeld (phaseWord phase) held ⌝ }
+// An open line has one to four past sets and any other none; a phase that there isn't has no right number of them.
+fn sound_held(phase: u32, held: u32) -> bool
+    ensures { λ r. ⌜ r ≡ soundHeld phase held ⌝ }
 {
     match phase {
-        Phase::New => held == 0,
-        Phase::Open => flags::both(1 <= held, held <= 4),
-        Phase::CheckDue => held == 0,
+        0 => held == 0,
+        1 => flags::both(1 <= held, held <= 4),
+        2 => held == 0,
+        _ => false,
     }
 }
 
-// One set further back.
-fn next_set(n: u32, f: Fall, p: PastSet) -> Fall
+// A set whose day does not pass that of the set before it, and that is sound.
+fn next_set(n: u32, last: u32, p: PastSet) -> bool
     requires { ⌜ n ≤ 6 ⌝ }
-    ensures { λ r. ⌜ r ≡ fallen n f p ⌝ }
+    ensures { λ r. ⌜ r ≡ (leb (p .day) last && soundSet n p) ⌝ }
 {
-    Fall {
-        day: p.day,
-        ok: flags::both(f.ok, flags::both(p.day <= f.day, sound_set(n, p))),
+    if last < p.day {
+        return false;
     }
+    sound_set(n, p)
 }
 
-fn sound_past(n: u32, day: u32, held: usize, past: [PastSet; 4]) -> bool
+// The held sets of the line in these places, from newest to oldest.
+fn sound_past(n: u32, day: u32, held: usize, part: &[i32]) -> bool
     requires { ⌜ (n ≤ 6) × (held ≤ 4) ⌝ }
-    ensures { λ r. ⌜ r ≡ (daysFall day (take held past) && all (soundSet n) (take held past)) ⌝ }
+    requires { ⌜ length (now part) ≡ 15 ⌝ }
+    ensures { λ r. ⌜ r ≡ soundPast n day (take held (lineIn (now (part .entry)) .past)) ⌝ }
 {
-    let mut f = Fall { day, ok: true };
-    let mut i = 0;
+    let mut last = day;
+    let mut i: usize = 0;
     while i < held {
-        f = next_set(n, f, past[i]);
+        let p = lines::set_at(part, 3 + 3 * i);
+        if !next_set(n, last, p) {
+            return false;
+        }
+        last = p.day;
         i += 1;
     }
-    f.ok
+    true
 }
 
-fn sound_line(n: u32, day: u32, l: Line) -> bool
+fn sound_line(n: u32, day: u32, part: &[i32]) -> bool
     requires { ⌜ n ≤ 6 ⌝ }
-    ensures { λ r. ⌜ r ≡ soundLine n day l ⌝ }
+    requires { ⌜ length (now part) ≡ 15 ⌝ }
+    ensures { λ r. ⌜ r ≡ soundLine n day (lineIn (now (part .entry))) ⌝ }
 {
-    if !whole::size_at_most(Int { z: l.intercept }, 1000) {
+    if !whole::size_at_most(places::number_at(part, 0), 1000) {
         return false;
     }
-    let phase = l.phase;
-    if !sound_held(phase, l.held) {
+    let held = places::natural_at(part, 2);
+    if !sound_held(places::natural_at(part, 1), held) {
         return false;
     }
-    let past = l.past;
-    sound_past(n, day, l.held, past)
+    sound_past(n, day, held as usize, part)
 }
 
-fn sound_lines(n: u32, day: u32, count: usize, lines: [Line; 3]) -> bool
+// The first `count` lines.
+fn sound_lines(state: &[i32], n: u32, day: u32, count: usize) -> bool
     requires { ⌜ (n ≤ 6) × (count ≤ 3) ⌝ }
-    ensures { λ r. ⌜ r ≡ all (soundLine n day) (take count lines) ⌝ }
+    requires { ⌜ length (now state) ≡ 47 ⌝ }
+    ensures { λ r. ⌜ r ≡ all (soundLine n day) (take count (stationIn (now (state .entry)) .lines)) ⌝ }
 {
-    let mut ok = true;
-    let mut i = 0;
+    let mut i: usize = 0;
     while i < count {
-        ok = flags::both(ok, sound_line(n, day, lines[i]));
+        let start = 2 + 15 * i;
+        if !sound_line(n, day, &state[start..start + 15]) {
+            return false;
+        }
         i += 1;
     }
-    ok
+    true
 }
 
-// The row exists, the day is 0..99999, and the row's lines are sound.
-pub fn is_sound(s: Station) -> bool
-    ensures { λ r. ⌜ r ≡ sound s ⌝ }
+// Number 0: the places are 47, the row exists, the day is 0..99999, and the row's lines are sound.
+pub fn is_sound(state: &[i32]) -> bool
+    ensures { λ r. ⌜ r ≡ sound (stationIn (now (state .entry))) ⌝ }
 {
-    if !rows::row_exists(s.row) {
+    if state.len() != 47 {
         return false;
     }
-    if 99999 < s.day {
+    let row = station_places::row_of(state);
+    if !rows::row_exists(row as usize) {
         return false;
     }
-    let lines = s.lines;
-    sound_lines(
-        rows::sample_count(s.row),
-        s.day,
-        rows::line_count(s.row),
-        lines,
-    )
+    let day = station_places::day_of(state);
+    if 99999 < day {
+        return false;
+    }
+    sound_lines(state, rows::sample_count(row), day, rows::line_count(row))
 }
 
 // Number 2: the day is below that of the last accepted call or above 99999.

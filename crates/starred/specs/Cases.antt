@@ -3,10 +3,9 @@ use mathlib.Core.List.{List, [], _∷_}
 use lib.ListN.{replicate}
 use lib.IntN.{ℤ, pos, negsuc}
 use Rattle.reading.specs.Reading.{hundredths}
-use Rattle.rules.specs.Lines.{openLine, checkDueLine}
+use Rattle.rules.specs.Lines.{newLine, openLine, checkDueLine}
 use Rattle.rules.specs.Replies.{refusedBy, outcome, certificate}
 use Rattle.rules.specs.Cases.{Seen, read, sheet, market, charted, Case, readOf, again, results, deviations, twoDeviations, dryOn}
-use Rattle.rules.specs.declared.Phase.the-variants.{New, Open, CheckDue}
 use Rattle.chart.specs.Cases.{averages}
 
 -- the last of sets with these sums, n 5, in weeks 1, 2, .. of a fresh wheat chart
@@ -30,20 +29,20 @@ starred =
     ∷ record { gives = twoDeviations (again (pos 1000)) (again (pos 1000)); says = sheet (refusedBy 7) (pos 0) }
     ∷ record { gives = twoDeviations (again (pos 1000)) (λ s. s); says = sheet (outcome (negsuc 19) 12 openLine (pos 0)) (pos 0) }
     -- new, S 120: open; 121: intercept −10
-    ∷ record { gives = deviations New [] (pos 20 ∷ pos 20 ∷ pos 20 ∷ pos 20 ∷ pos 20 ∷ pos 20 ∷ []); says = sheet (outcome (pos 120) 12 openLine (pos 0)) (pos 0) }
-    ∷ record { gives = deviations New [] (pos 20 ∷ pos 20 ∷ pos 20 ∷ pos 20 ∷ pos 20 ∷ pos 21 ∷ []); says = sheet (outcome (pos 121) 12 checkDueLine (negsuc 9)) (negsuc 9) }
+    ∷ record { gives = deviations newLine [] (pos 20 ∷ pos 20 ∷ pos 20 ∷ pos 20 ∷ pos 20 ∷ pos 20 ∷ []); says = sheet (outcome (pos 120) 12 openLine (pos 0)) (pos 0) }
+    ∷ record { gives = deviations newLine [] (pos 20 ∷ pos 20 ∷ pos 20 ∷ pos 20 ∷ pos 20 ∷ pos 21 ∷ []); says = sheet (outcome (pos 121) 12 checkDueLine (negsuc 9)) (negsuc 9) }
     -- open, past S 70: S 98 stays open, 99 adjusts by 7
-    ∷ record { gives = deviations Open (pos 70 ∷ []) (pos 16 ∷ pos 16 ∷ pos 16 ∷ pos 16 ∷ pos 17 ∷ pos 17 ∷ []); says = sheet (outcome (pos 98) 12 openLine (pos 0)) (pos 0) }
-    ∷ record { gives = deviations Open (pos 70 ∷ []) (pos 16 ∷ pos 16 ∷ pos 16 ∷ pos 17 ∷ pos 17 ∷ pos 17 ∷ []); says = sheet (outcome (pos 99) 12 checkDueLine (negsuc 6)) (negsuc 6) }
+    ∷ record { gives = deviations openLine (pos 70 ∷ []) (pos 16 ∷ pos 16 ∷ pos 16 ∷ pos 16 ∷ pos 17 ∷ pos 17 ∷ []); says = sheet (outcome (pos 98) 12 openLine (pos 0)) (pos 0) }
+    ∷ record { gives = deviations openLine (pos 70 ∷ []) (pos 16 ∷ pos 16 ∷ pos 16 ∷ pos 17 ∷ pos 17 ∷ pos 17 ∷ []); says = sheet (outcome (pos 99) 12 checkDueLine (negsuc 6)) (negsuc 6) }
     -- fifth set, five S of 36: open; of 37: adjusts by 3
-    ∷ record { gives = deviations Open (replicate 4 (pos 36)) (replicate 6 (pos 6)); says = sheet (outcome (pos 36) 12 openLine (pos 0)) (pos 0) }
-    ∷ record { gives = deviations Open (replicate 4 (pos 37)) (pos 7 ∷ replicate 5 (pos 6)); says = sheet (outcome (pos 37) 12 checkDueLine (negsuc 2)) (negsuc 2) }
+    ∷ record { gives = deviations openLine (replicate 4 (pos 36)) (replicate 6 (pos 6)); says = sheet (outcome (pos 36) 12 openLine (pos 0)) (pos 0) }
+    ∷ record { gives = deviations openLine (replicate 4 (pos 37)) (pos 7 ∷ replicate 5 (pos 6)); says = sheet (outcome (pos 37) 12 checkDueLine (negsuc 2)) (negsuc 2) }
     -- check due: S 60 opens, 61 adjusts by 5
-    ∷ record { gives = deviations CheckDue [] (replicate 6 (pos 10)); says = sheet (outcome (pos 60) 12 openLine (pos 0)) (pos 0) }
-    ∷ record { gives = deviations CheckDue [] (pos 11 ∷ replicate 5 (pos 10)); says = sheet (outcome (pos 61) 12 checkDueLine (negsuc 4)) (negsuc 4) }
+    ∷ record { gives = deviations checkDueLine [] (replicate 6 (pos 10)); says = sheet (outcome (pos 60) 12 openLine (pos 0)) (pos 0) }
+    ∷ record { gives = deviations checkDueLine [] (pos 11 ∷ replicate 5 (pos 10)); says = sheet (outcome (pos 61) 12 checkDueLine (negsuc 4)) (negsuc 4) }
     -- h 1354 dry: 135 and 154; h 1350 dry: 135 and 153 (13.54 and 13.5)
-    ∷ record { gives = dryOn Open (pos 0 ∷ []) 0x4158_a3d7; says = market (certificate 1 (pos 0) (pos 0) 135 154) }
-    ∷ record { gives = dryOn Open (pos 0 ∷ []) 0x4158_0000; says = market (certificate 1 (pos 0) (pos 0) 135 153) }
+    ∷ record { gives = dryOn openLine (pos 0 ∷ []) 0x4158_a3d7; says = market (certificate 1 (pos 0) (pos 0) 135 154) }
+    ∷ record { gives = dryOn openLine (pos 0 ∷ []) 0x4158_0000; says = market (certificate 1 (pos 0) (pos 0) 135 153) }
     -- chart, n 5: sum 100 is absolute, 99 isn't
     ∷ record { gives = sums (pos 100 ∷ []); says = charted (pos 1 ∷ pos 0 ∷ pos 0 ∷ []) }
     ∷ record { gives = sums (pos 99 ∷ []); says = charted (pos 0 ∷ pos 0 ∷ pos 0 ∷ []) }

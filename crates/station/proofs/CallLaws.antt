@@ -1,41 +1,40 @@
--- Which answer an opening and a repair get, by their tests.
+-- What an opening and a repair leave, by their tests.
 use mathlib.Core.Path.{_≡_}
 use mathlib.Core.Bool.{true, false}
-use mathlib.Core.List.{List, map}
+use mathlib.Core.List.{List}
 use Prim.Native.Nat.{ℕ}
+use lib.IntN.{ℤ}
 use Rattle.rules.specs.Rows.{rowExists}
 use Rattle.rules.specs.Judging.{dayCheck}
-use Rattle.rules.specs.Held.{repairedLine}
 use Rattle.rules.specs.Soundness.{sound}
-use Rattle.rules.specs.Stations.{freshStation, openOf, repairOf}
-use Rattle.rules.specs.declared.Line.{Line}
-use Rattle.rules.specs.declared.Station.{Station}
+use Rattle.rules.specs.Stations.{openOf, repairOf}
+use Rattle.rules.specs.Places.{stationIn}
+use Rattle.rules.specs.InPlace.{Left, openedStation, openIn, repairPlaces, repairIn}
 use Rattle.rules.specs.declared.Refusal.the-variants.{UnsoundStation, UnknownRow, BadDay}
 use Rattle.rules.specs.declared.OpenAnswer.{OpenAnswer}
-use Rattle.rules.specs.declared.Opening.{Opening}
 use Rattle.rules.specs.declared.RepairAnswer.{RepairAnswer}
-use Rattle.rules.specs.declared.RepairResult.{RepairResult}
 
-module _ (row : ℕ) {s : Station} where
-  pub open-none : rowExists row ≡ false → s ≡ freshStation 0 → _≡_ {A = Opening} (record { station = s; answer = OpenAnswer.Refused UnknownRow }) (openOf row)
-  unfolding openOf
-  open-none h e = simp h (λ i. record { station = e i; answer = OpenAnswer.Refused UnknownRow })
+module _ (row : ℕ) where
+  pub open-none : rowExists row ≡ false → _≡_ {A = Left OpenAnswer} (record { answer = OpenAnswer.Refused UnknownRow; places = openedStation 0 }) (openIn row)
+  unfolding openIn openOf
+  open-none h = simp h
 
-  pub open-some : rowExists row ≡ true → s ≡ freshStation row → _≡_ {A = Opening} (record { station = s; answer = OpenAnswer.Opened }) (openOf row)
-  unfolding openOf
-  open-some h e = simp h (λ i. record { station = e i; answer = OpenAnswer.Opened })
+  pub open-some : rowExists row ≡ true → _≡_ {A = Left OpenAnswer} (record { answer = OpenAnswer.Opened; places = openedStation row }) (openIn row)
+  unfolding openIn openOf
+  open-some h = simp h
 
-module _ (s : Station) (day : ℕ) where
-  pub repair-unsound : sound s ≡ false → _≡_ {A = RepairResult} (record { station = s; answer = RepairAnswer.Refused UnsoundStation }) (repairOf s day)
-  unfolding repairOf
+module _ (words : List ℤ) (day : ℕ) where
+  pub repair-unsound : sound (stationIn words) ≡ false → _≡_ {A = Left RepairAnswer} (record { answer = RepairAnswer.Refused UnsoundStation; places = words }) (repairIn words day)
+  unfolding repairIn repairOf
   repair-unsound e = simp e
 
-  module _ (right : sound s ≡ true) where
-    pub repair-day : dayCheck (s .day) day .applies ≡ true → _≡_ {A = RepairResult} (record { station = s; answer = RepairAnswer.Refused BadDay }) (repairOf s day)
-    unfolding repairOf
+  module _ (right : sound (stationIn words) ≡ true) where
+    pub repair-day : dayCheck (stationIn words .day) day .applies ≡ true
+        → _≡_ {A = Left RepairAnswer} (record { answer = RepairAnswer.Refused BadDay; places = words }) (repairIn words day)
+    unfolding repairIn repairOf
     repair-day e = simp (right, e)
 
-    pub repair-done : dayCheck (s .day) day .applies ≡ false → (lines : List Line) → lines ≡ map repairedLine (s .lines)
-        → _≡_ {A = RepairResult} (record { station = record { row = s .row; day = day; lines = lines }; answer = RepairAnswer.Repaired }) (repairOf s day)
-    unfolding repairOf
-    repair-done e lines q = simp (right, e) (λ i. record { station = record { row = s .row; day = day; lines = q i }; answer = RepairAnswer.Repaired })
+    pub repair-done : dayCheck (stationIn words .day) day .applies ≡ false
+        → _≡_ {A = Left RepairAnswer} (record { answer = RepairAnswer.Repaired; places = repairPlaces words day }) (repairIn words day)
+    unfolding repairIn repairOf
+    repair-done e = simp (right, e)

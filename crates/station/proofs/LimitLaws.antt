@@ -1,4 +1,4 @@
--- The limits of a row's line are in the ranges that the sheet asks for.
+-- The limits of a row's line are in the ranges that the sheet and the averages ask for.
 use mathlib.Core.Path.{_≡_, subst⁻¹}
 use Prim.Native.Nat.{ℕ, _<_}
 use lib.IntN.{ℤ}
@@ -8,6 +8,7 @@ use Rattle.rules.specs.Rows.{lineCount, limitsOf}
 use Rattle.rules.proofs.RowFacts.{row-facts}
 use Rattle.rules.specs.declared.Limits.{Limits}
 use Rattle.numbers.specs.Samples.{Fair}
+use Rattle.averages.specs.Ranges.{Limited}
 
 module _ (row line : ℕ) (here : line < lineCount row) where
   -- with an intercept that the station holds
@@ -16,3 +17,8 @@ module _ (row line : ℕ) (here : line < lineCount row) where
       let f = row-facts row .lineLimits line here in
       subst⁻¹ (λ (y : Limits). Fair y (rd i)) e
       (record { sample = f .sample .most; range = f .range .most; small = subst⁻¹ (Within 1000 1000) (back-in w tt tt .is) w })
+
+  pub limits-limited : Limited (limitsOf row line)
+  limits-limited =
+      let f = row-facts row .lineLimits line here in
+      record { one = f .one .most; two = f .two .most; three = f .three .most; five = f .five .most; check = f .check .most }

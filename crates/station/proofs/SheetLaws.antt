@@ -5,61 +5,67 @@ use mathlib.Core.List.{List}
 use mathlib.Core.Option.{Option, none, some}
 use Prim.Native.Nat.{ℕ, _≤_, _<_}
 use native.Mathlib.Omega.{arith}
+use lib.Dec.{ltb}
 use lib.IntN.{ℤ, natAbs}
-use borrow.Author.Tests.{lt-ltb, le-ltb}
+use borrow.Author.Tests.{lt-ltb, le-ltb, ltb-false}
 use Rattle.rules.specs.Rows.{samples, lineCount, limitsOf}
 use Rattle.rules.specs.Refusals.{firstNumber}
 use Rattle.rules.specs.Sheets.{sheetChecks, setOf}
 use Rattle.rules.specs.Judging.{dayCheck, sheetNumbers, sheetSet, sheetVerdict}
 use Rattle.rules.specs.Soundness.{sound}
+use Rattle.rules.specs.Places.{stationIn}
+use Rattle.rules.specs.InPlace.{Left, sheetPlaces, sheetLeft, sheetIn}
 use Rattle.rules.specs.Stations.{valuesOf, sheetStation, outcomeOf, sheetResult, sheetOf}
 use Rattle.rules.proofs.SheetBounds.{set-bounded}
+use Rattle.rules.proofs.RowFacts.{row-facts}
+use Rattle.whole.proofs.Tests.{or-none}
+use Rattle.whole.proofs.PartLaws.{sizeParts, either}
 use Rattle.rules.specs.declared.Limits.{Limits}
 use Rattle.rules.specs.declared.Set.{Set}
-use Rattle.rules.specs.declared.Station.{Station}
+use Rattle.rules.specs.Held.{Station}
 use Rattle.rules.specs.declared.Refusal.{Refusal}
 use Rattle.rules.specs.declared.Refusal.the-variants.{UnsoundStation, BadDay, UnknownLine}
 use Rattle.rules.specs.declared.SheetAnswer.{SheetAnswer}
-use Rattle.rules.specs.declared.SheetResult.{SheetResult}
 use Rattle.sheet.specs.Judged.{judgedBy, judgedOf}
 use Rattle.sheet.specs.declared.answer.Judged.{Judged}
 use Rattle.sheet.specs.declared.answer.Judged.the-variants.{Counted, Refused}
 use Rattle.past_sets.specs.Ranges.{SetsOf}
-use Rattle.soundness.proofs.FitsLaws.{size-within}
-use Rattle.outcomes.specs.Accepted.{acceptedOf}
+use Rattle.soundness.proofs.FitsLaws.{size-within, line-fits}
+use Rattle.station.specs.Accepted.{acceptedIn, sheetBy, Ruled}
 
-abbrev pub refusedSheet : Station → Refusal → SheetResult
-refusedSheet s r = record { station = s; answer = SheetAnswer.Refused r }
+abbrev pub refusedSheet : List ℤ → Refusal → Left SheetAnswer
+refusedSheet words r = record { answer = SheetAnswer.Refused r; places = words }
 
--- by what the sheet's numbers come to
-abbrev pub sheetBy : Station → ℕ → ℕ → Judged → SheetResult
-sheetBy s day line (Counted counted) = acceptedOf s day line counted
-sheetBy s day line (Refused r) = refusedSheet s r
+module _ (words : List ℤ) (day line : ℕ) (numbers : List ℤ) where
+  abbrev s : Station
+  s = stationIn words
 
-module _ (s : Station) (day line : ℕ) (numbers : List ℤ) where
-  pub sheet-unsound : sound s ≡ false → refusedSheet s UnsoundStation ≡ sheetOf s day line numbers
-  unfolding sheetOf
+  pub sheet-unsound : sound s ≡ false → refusedSheet words UnsoundStation ≡ sheetIn words day line numbers
+  unfolding sheetIn sheetOf
   sheet-unsound e = simp e
 
   module _ (right : sound s ≡ true) where
-    pub sheet-day : dayCheck (s .day) day .applies ≡ true → refusedSheet s BadDay ≡ sheetOf s day line numbers
-    unfolding sheetOf sheetNumbers
+    pub sheet-day : dayCheck (s .day) day .applies ≡ true → refusedSheet words BadDay ≡ sheetIn words day line numbers
+    unfolding sheetIn sheetOf sheetNumbers
     sheet-day e = simp (right, e)
 
     module _ (good : dayCheck (s .day) day .applies ≡ false) where
-      pub sheet-line : lineCount (s .row) ≤ line → refusedSheet s UnknownLine ≡ sheetOf s day line numbers
-      unfolding sheetOf sheetNumbers
+      pub sheet-line : lineCount (s .row) ≤ line → refusedSheet words UnknownLine ≡ sheetIn words day line numbers
+      unfolding sheetIn sheetOf sheetNumbers
       sheet-line h = simp (right, good, le-ltb line (lineCount (s .row)) h)
 
       pub sheet-by : line < lineCount (s .row) → (j : Judged) → j ≡ judgedOf (limitsOf (s .row) line) (valuesOf s line .intercept) (samples (s .row)) numbers
-          → sheetBy s day line j ≡ sheetOf s day line numbers
-      unfolding sheetOf sheetNumbers sheetStation outcomeOf sheetVerdict sheetSet judgedOf acceptedOf
+          → sheetBy words day line j ≡ sheetIn words day line numbers
+      unfolding sheetIn sheetOf sheetNumbers sheetPlaces outcomeOf sheetVerdict sheetSet judgedOf acceptedIn
       sheet-by h j e =
-          ap (sheetBy s day line) e
+          ap (sheetBy words day line) e
           ∙ simp (right, good, lt-ltb line (lineCount (s .row)) h) (go (firstNumber (sheetChecks (limitsOf (s .row) line) (valuesOf s line .intercept) (samples (s .row)) numbers)))
         where
-          go : (o : Option ℕ) → sheetBy s day line (judgedBy o (setOf (limitsOf (s .row) line) (valuesOf s line .intercept) numbers))
-              ≡ sheetResult o s (sheetStation s day line numbers) (outcomeOf s day line numbers)
+          go : (o : Option ℕ) → sheetBy words day line (judgedBy o (setOf (limitsOf (s .row) line) (valuesOf s line .intercept) numbers))
+              ≡ record {
+                answer = sheetResult o s (sheetStation s day line numbers) (outcomeOf s day line numbers) .answer;
+                places = sheetLeft (sheetResult o s (sheetStation s day line numbers) (outcomeOf s day line numbers) .answer) words (sheetPlaces words day line numbers);
+              }
           go none = refl
           go (some number) = refl
 
@@ -77,3 +83,21 @@ counted-fits limits i n numbers counted hi hn e = go (firstNumber (sheetChecks l
         subst (λ (x : Set). SetsOf 1 (x .sum) (x .count)) (sym q)
         (record { within = size-within 132000 (setOf limits i numbers .sum) (omega arith); few = omega arith })
     go (some number) x e = let z : _≡_ {A = ℕ} 0 1 = cc in absurd (omega arith)
+
+-- what the numbers of a call on a sound station's line come to
+pub ruled-by : (words : List ℤ) (day line : ℕ) (numbers : List ℤ) → let s = stationIn words in
+    sound s ≡ true → dayCheck (s .day) day .applies ≡ false → line < lineCount (s .row) → (j : Judged)
+    → j ≡ judgedOf (limitsOf (s .row) line) (valuesOf s line .intercept) (samples (s .row)) numbers → Ruled words day line numbers j
+ruled-by words day line numbers right good here (Refused r) e = sheet-by words day line numbers right good here (Refused r) e
+ruled-by words day line numbers right good here (Counted set) e =
+    let s = stationIn words in
+    let z = valuesOf s line .intercept in
+    let w = line-fits s line right here .small in (
+      record {
+        right = right;
+        today = ltb-false 99999 day (or-none (ltb day (s .day)) (ltb 99999 day) good .1);
+        here = here;
+        fits = counted-fits (limitsOf (s .row) line) z (samples (s .row)) numbers set (omega (arith, sizeParts z, either z)) (row-facts (s .row) .sixSamples) e;
+      },
+      sheet-by words day line numbers right good here (Counted set) e,
+    )

@@ -1,90 +1,103 @@
-// A station's calls: opening, sheet and repair (paper 01). State goes in by value and comes back with the answer beside it.
+// A station's calls: opening, sheet and repair (paper 01), on the station in its caller's places. Judged first, written last: a refused call writes
+// nothing, but for a refused opening, which leaves a fresh station of row 0.
 use rules::OpenAnswer;
-use rules::Opening;
+use rules::Outcome;
+use rules::PastSet;
 use rules::Refusal;
 use rules::RepairAnswer;
-use rules::RepairResult;
-use rules::SheetResult;
-use rules::Station;
+use rules::Set;
+use rules::SheetAnswer;
 use sheet::Judged;
 use whole::Int;
+use whole::places;
 ghost use mathlib.Core.Path.{_≡_};
-ghost use Rattle.rules.specs.Stations.{freshStation, openOf, sheetOf, repairOf};
-ghost use Rattle.rules.specs.declared.RepairAnswer.{RepairAnswer};
+ghost use Rattle.rules.specs.InPlace.{openIn, sheetIn, repairIn};
+ghost use Rattle.rules.specs.declared.SheetAnswer.{SheetAnswer};
+ghost use Rattle.station.specs.Accepted.{acceptedIn, Acceptable, Ruled};
 
-fn fresh(row: usize) -> Station
-    ensures { λ r. ⌜ r ≡ freshStation row ⌝ }
-{
-    let line = lines::fresh_line();
-    let lines = [line, line, line];
-    Station { row, day: 0, lines }
-}
+// ---- opening
 
-// Opening a station of a row. A refused opening hands back a fresh station of row 0.
-pub fn open(row: usize) -> Opening
-    ensures { λ r. ⌜ r ≡ openOf row ⌝ }
+// Every place is written: the row, and 0.
+pub fn open(state: &mut [i32; 47], row: usize) -> OpenAnswer
+    ensures { λ r. ⌜ record { answer = r; places = now (state .exit) } ≡ openIn row ⌝ }
 {
+    let zeros = [0; 47];
+    *state = zeros;
     if !rows::row_exists(row) {
-        let first = fresh(0);
-        return Opening {
-            station: first,
-            answer: OpenAnswer::Refused(Refusal::UnknownRow),
-        };
+        return OpenAnswer::Refused(Refusal::UnknownRow);
     }
-    let station = fresh(row);
-    Opening {
-        station,
-        answer: OpenAnswer::Opened,
-    }
+    places::put(state, 0, whole::of_u32(row as u32));
+    OpenAnswer::Opened
 }
 
-pub fn sheet(s: Station, day: u32, line: usize, numbers: &[i32]) -> SheetResult
-    ensures { λ r. ⌜ r ≡ sheetOf s day line (now (numbers .entry)) ⌝ }
+// ---- a sheet
+
+// What the call's numbers come to: 0 and 2 to 7, else S and N.
+fn judge(state: &[i32], day: u32, line: usize, numbers: &[i32]) -> Judged
+    ensures { λ r. ⌜ Ruled (now (state .entry)) day line (now (numbers .entry)) r ⌝ }
 {
-    if !soundness::is_sound(s) {
-        return outcomes::refuse_sheet(s, Refusal::UnsoundStation);
+    if !soundness::is_sound(state) {
+        return Judged::Refused(Refusal::UnsoundStation);
     }
-    if soundness::is_bad_day(s.day, day) {
-        return outcomes::refuse_sheet(s, Refusal::BadDay);
+    if soundness::is_bad_day(station_places::day_of(state), day) {
+        return Judged::Refused(Refusal::BadDay);
     }
-    if rows::line_count(s.row) <= line {
-        return outcomes::refuse_sheet(s, Refusal::UnknownLine);
+    let row = station_places::row_of(state);
+    if rows::line_count(row) <= line {
+        return Judged::Refused(Refusal::UnknownLine);
     }
-    let all = s.lines;
-    let l = lines::line_at(all, line);
-    let limits = rows::limits_of(s.row, line);
-    let samples = rows::sample_count(s.row) as usize;
-    match sheet::judge(limits, Int { z: l.intercept }, samples, numbers) {
-        Judged::Counted(set) => outcomes::accept(s, day, line, set),
-        Judged::Refused(r) => outcomes::refuse_sheet(s, r),
-    }
+    let l = station_places::line_of(state, line);
+    let limits = rows::limits_of(row, line);
+    let samples = rows::sample_count(row) as usize;
+    sheet::judge(limits, Int { z: l.intercept }, samples, numbers)
 }
 
-fn refuse_repair(station: Station, r: Refusal) -> RepairResult
-    ensures { λ x. ⌜ x ≡ record { station = station; answer = RepairAnswer.Refused r } ⌝ }
+// An accepted sheet: its line after the set, the day, and the outcome.
+fn accept(state: &mut [i32], day: u32, line: usize, set: Set) -> Outcome
+    requires { ⌜ Acceptable (now state) day line set ⌝ }
+    ensures { λ r. ⌜ record { answer = SheetAnswer.Accepted r; places = now (state .exit) } ≡ acceptedIn (now (state .entry)) day line set ⌝ }
 {
-    let answer = RepairAnswer::Refused(r);
-    RepairResult { station, answer }
-}
-
-pub fn repair(s: Station, day: u32) -> RepairResult
-    ensures { λ r. ⌜ r ≡ repairOf s day ⌝ }
-{
-    if !soundness::is_sound(s) {
-        return refuse_repair(s, Refusal::UnsoundStation);
-    }
-    if soundness::is_bad_day(s.day, day) {
-        return refuse_repair(s, Refusal::BadDay);
-    }
-    let all = s.lines;
-    let repaired = lines::repaired_lines(all);
-    let next = Station {
-        row: s.row,
+    let l = station_places::line_of(state, line);
+    let limits = rows::limits_of(station_places::row_of(state), line);
+    let v = verdicts::verdict_on(limits, l, day, set);
+    let p = PastSet {
         day,
-        lines: repaired,
+        sum: set.sum,
+        count: set.count,
     };
-    RepairResult {
-        station: next,
-        answer: RepairAnswer::Repaired,
+    station_places::enter_sheet(state, line, p, v);
+    station_places::put_day(state, day);
+    Outcome {
+        sum: set.sum,
+        count: set.count,
+        phase: lines::phase_after(v),
+        change: v.change,
     }
+}
+
+pub fn sheet(state: &mut [i32], day: u32, line: usize, numbers: &[i32]) -> SheetAnswer
+    ensures { λ r. ⌜ record { answer = r; places = now (state .exit) } ≡ sheetIn (now (state .entry)) day line (now (numbers .entry)) ⌝ }
+{
+    match judge(state, day, line, numbers) {
+        Judged::Counted(set) => SheetAnswer::Accepted(accept(state, day, line, set)),
+        Judged::Refused(r) => SheetAnswer::Refused(r),
+    }
+}
+
+// ---- a repair
+
+pub fn repair(state: &mut [i32], day: u32) -> RepairAnswer
+    ensures { λ r. ⌜ record { answer = r; places = now (state .exit) } ≡ repairIn (now (state .entry)) day ⌝ }
+{
+    if !soundness::is_sound(state) {
+        return RepairAnswer::Refused(Refusal::UnsoundStation);
+    }
+    if soundness::is_bad_day(station_places::day_of(state), day) {
+        return RepairAnswer::Refused(Refusal::BadDay);
+    }
+    station_places::repair_line(state, 0);
+    station_places::repair_line(state, 1);
+    station_places::repair_line(state, 2);
+    station_places::put_day(state, day);
+    RepairAnswer::Repaired
 }

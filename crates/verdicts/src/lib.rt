@@ -44,9 +44,8 @@ pub fn verdict_on(limits: Limits, l: Line, day: u32, set: Set) -> Verdict
         };
     }
     let past = l.past;
-    let phase = l.phase;
-    let k = past_sets::valid_count(day, l.held, past);
-    match averages::first_exceeded(limits, phase, set, k, past) {
+    let k = past_sets::valid_count(day, l.held as usize, past);
+    match averages::first_exceeded(limits, l.phase, set, k, past) {
         Found::Exceeded(t) => adjust(
             Int { z: l.intercept },
             rounding::rounded(Int { z: t.sum }, t.count),

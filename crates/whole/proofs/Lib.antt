@@ -5,3 +5,4 @@ pub mod Fold
 pub mod ListLaws
 pub mod Read
 pub mod Elements
+pub mod Spelled

@@ -1,7 +1,7 @@
 -- An integer z as up z - down z: how far it lies above 0, and how far below. One of the two is 0.
 -- omega reads only natural numbers: the leaf contracts state what it is to know of an integer in these two.
 use mathlib.Core.Path.{_≡_}
-use Prim.Native.Nat.{ℕ, _+_, _*_, _≤_}
+use Prim.Native.Nat.{ℕ, _+_, _-_, _*_, _≤_}
 use lib.IntN.{ℤ, pos, negsuc, negℤ, _+ℤ_, _-ℤ_, _*ℤ_}
 
 abbrev pub up : ℤ → ℕ

@@ -7,9 +7,11 @@ ghost use lib.IntN.{natAbs};
 ghost use lib.Dec.{leb};
 ghost use lib.Signed.{ltZ, leZ};
 ghost use Rattle.whole.specs.Parts.{up, down, Sum, Diff, Times, Minus, Natural};
+ghost use Rattle.whole.specs.Places.{natural as naturalOf};
 ghost use Rattle.whole.specs.Lists.{largerOf, smallerOf};
 
 pub mod flags;
+pub mod places;
 
 pub struct Int {
     pub z: i32,
@@ -93,6 +95,17 @@ pub fn to_u32(a: Int) -> u32
     ensures { λ r. ⌜ Natural r (a .z) ⌝ }
 {
     a.z as u32
+}
+
+// A number that is never negative; a negative one reads as its bits without sign, which the compiler sees: nothing is left of the branch.
+pub fn natural(a: Int) -> u32
+    ensures { λ r. ⌜ r ≡ naturalOf (a .z) ⌝ }
+{
+    if at_most(Int { z: 0 }, a) {
+        to_u32(a)
+    } else {
+        4294967295 - to_u32(neg(add(a, Int { z: 1 })))
+    }
 }
 
 // The two ways over the border to functions on i32.

@@ -140,16 +140,16 @@ pub fn follow(line: &mut Line, verdict: Verdict, set: PastSet) {
         // "Opens the line with this set as its only past"; new and open: "the line is open and the
         // set joins the past".
         Verdict::Met => {
-            if line.phase == Phase::CheckDue {
+            if line.phase() == Phase::CheckDue {
                 line.empty();
             }
-            line.phase = Phase::Open;
+            line.phase = Phase::Open.code();
             line.join(set);
         }
         // "Past sets go and the phase is check due."
         Verdict::NothingKept | Verdict::Adjusted(..) | Verdict::Bounded(_) => {
             line.intercept += verdict.change();
-            line.phase = Phase::CheckDue;
+            line.phase = Phase::CheckDue.code();
             line.empty();
         }
     }

@@ -21,6 +21,8 @@ pub enum Basis {
     Dry,
     Specified(i32),
     AsIs(i32),
+    /// A kind of basis that there isn't.
+    Unknown,
 }
 
 /// "The certificate carries the day of the line's newest set, the intercept, B and two figures in
@@ -43,13 +45,18 @@ fn asked(row: i64, line: usize, scan: Scan) -> Result<u32, Refusal> {
     }
 }
 
-/// B in whole hundredths.
-fn hundredths(product: &Product, basis: Basis) -> i64 {
-    match basis {
+/// B in whole hundredths. 10: "B lies outside 0..5000"; so does the B of no kind.
+fn hundredths(rules: &Rules, product: &Product, basis: Basis) -> Result<i64, Refusal> {
+    let b = match basis {
         Basis::Standard => product.standard,
         Basis::Dry => 0,
         Basis::Specified(moisture) | Basis::AsIs(moisture) => i64::from(moisture),
+        Basis::Unknown => return Err(10),
+    };
+    if !(0..=rules.basis).contains(&b) {
+        return Err(10);
     }
+    Ok(b)
 }
 
 /// "Rounded once to the nearest tenth, halves up": `above` over `below` hundredths, both positive
@@ -78,10 +85,7 @@ pub fn certify(
 ) -> Result<Certificate, Refusal> {
     let float = asked(request.row, request.line, scan)?;
     let reading = reading(float)?;
-    let b = hundredths(request.product, basis);
-    if !(0..=rules.basis).contains(&b) {
-        return Err(10);
-    }
+    let b = hundredths(rules, request.product, basis)?;
     // "The corrected value h is reading plus intercept."
     let h = reading + request.intercept;
     if !(0..=rules.corrected).contains(&h) {
@@ -129,7 +133,7 @@ impl Station {
             day,
             line: place,
             intercept: line.intercept,
-            phase: line.phase,
+            phase: line.phase(),
             newest: line.sets().first().copied(),
         };
         let certificate = certify(rules, &request, scan, basis)?;

@@ -197,14 +197,21 @@ impl Station {
             s: sums.s,
             n: sums.n,
         };
-        let verdict = line::verdict(rules, limits, line.intercept, line.phase, line.sets(), set);
+        let verdict = line::verdict(
+            rules,
+            limits,
+            line.intercept,
+            line.phase(),
+            line.sets(),
+            set,
+        );
         line::follow(line, verdict, set);
         self.day = day;
         Ok(Judged {
             outcome: Outcome {
                 s: sums.s,
                 n: sums.n,
-                phase: line.phase,
+                phase: line.phase(),
                 change: verdict.change(),
             },
             verdict,

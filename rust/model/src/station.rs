@@ -11,6 +11,27 @@ pub enum Phase {
     CheckDue,
 }
 
+impl Phase {
+    /// The number that a line holds for its phase.
+    pub const fn code(self) -> i64 {
+        match self {
+            Phase::New => 0,
+            Phase::Open => 1,
+            Phase::CheckDue => 2,
+        }
+    }
+
+    /// None: a number that stands for no phase.
+    pub const fn of(code: i64) -> Option<Phase> {
+        match code {
+            0 => Some(Phase::New),
+            1 => Some(Phase::Open),
+            2 => Some(Phase::CheckDue),
+            _ => None,
+        }
+    }
+}
+
 /// A past set: "each with day, S and N".
 #[derive(Clone, Copy, Debug, PartialEq, Eq)]
 pub struct PastSet {
@@ -23,11 +44,12 @@ pub struct PastSet {
 pub const BLANK: PastSet = PastSet { day: 0, s: 0, n: 0 };
 
 /// "A line has an intercept (fresh: 0), a phase and up to four past sets, newest first". Of the
-/// four places the first `held` are its past sets, the others are spare.
+/// four places the first `held` are its past sets, the others are spare. Every field may hold any
+/// number, the phase's code too: what a line may hold is told by `sound`.
 #[derive(Clone, Copy, Debug, PartialEq, Eq)]
 pub struct Line {
     pub intercept: i64,
-    pub phase: Phase,
+    pub phase: i64,
     pub held: i64,
     pub past: [PastSet; 4],
 }
@@ -44,12 +66,17 @@ pub struct Station {
 impl Line {
     pub const FRESH: Line = Line {
         intercept: 0,
-        phase: Phase::New,
+        phase: Phase::New.code(),
         held: 0,
         past: [BLANK; 4],
     };
 
-    /// The past sets, newest first.
+    /// The phase. Only a sound line is asked.
+    pub fn phase(&self) -> Phase {
+        Phase::of(self.phase).expect("a sound line")
+    }
+
+    /// The past sets, newest first. Only a sound line is asked.
     pub fn sets(&self) -> &[PastSet] {
         &self.past[..self.held as usize]
     }
@@ -70,14 +97,16 @@ impl Line {
     /// "Intercepts lie in −1000..1000, an open line has one to four past sets and any other none,
     /// their days never rise from newest to oldest nor pass the station's day, N is even from 2 to
     /// twice the row's samples, and |S| is at most 11000 times N."
+    /// A code that stands for no phase and a day below 0 are no phase and no day.
     fn sound(&self, rules: &Rules, samples: i64, day: i64) -> bool {
-        let held_fits = match self.phase {
-            Phase::Open => (1..=4).contains(&self.held),
-            Phase::New | Phase::CheckDue => self.held == 0,
+        let held_fits = match Phase::of(self.phase) {
+            Some(Phase::Open) => (1..=4).contains(&self.held),
+            Some(Phase::New | Phase::CheckDue) => self.held == 0,
+            None => false,
         };
         held_fits
             && self.intercept.abs() <= rules.intercept
-            && self.sets().iter().all(|set| set.day <= day)
+            && self.sets().iter().all(|set| (0..=day).contains(&set.day))
             && self.sets().windows(2).all(|two| two[0].day >= two[1].day)
             && self.sets().iter().all(|set| {
                 set.n % 2 == 0
@@ -131,11 +160,12 @@ impl Station {
     /// past. New and open lines become new; check due stays. Intercepts stay."
     pub fn repair(&mut self, rules: &Rules, day: u32) -> Result<(), Refusal> {
         let day = self.called_on(rules, day)?;
-        // Every line's past is emptied, also that of lines that the grain lacks.
+        // Every line's past is emptied, also that of lines that the grain lacks. Their phase may be
+        // any number: only the code of open becomes that of new.
         for line in &mut self.lines {
             line.empty();
-            if line.phase == Phase::Open {
-                line.phase = Phase::New;
+            if line.phase == Phase::Open.code() {
+                line.phase = Phase::New.code();
             }
         }
         self.day = day;

@@ -42,7 +42,7 @@ fn wheat_sheet(s: i32, intercept: i32) -> Vec<i32> {
 fn station(phase: Phase, intercept: i64, day: i64, past: &[(i64, i64)]) -> Station {
     let mut line = Line {
         intercept,
-        phase,
+        phase: phase.code(),
         ..Line::FRESH
     };
     for &(day, s) in past.iter().rev() {
@@ -59,7 +59,7 @@ fn entered(mut station: Station, day: u32, s: i32) -> (Station, Verdict) {
     let numbers = wheat_sheet(s, station.lines[0].intercept as i32);
     let judged = station.sheet(&Rules::paper(), day, 0, &numbers).unwrap();
     assert_eq!((judged.outcome.s, judged.outcome.n), (i64::from(s), 12));
-    assert_eq!(judged.outcome.phase, station.lines[0].phase);
+    assert_eq!(judged.outcome.phase, station.lines[0].phase());
     (station, judged.verdict)
 }
 
@@ -154,7 +154,10 @@ fn again_pairs() {
 fn one_set() {
     let fresh = Station::fresh(0);
     let (open, verdict) = entered(fresh, 3, 120);
-    assert_eq!((verdict, open.lines[0].phase), (Verdict::Met, Phase::Open));
+    assert_eq!(
+        (verdict, open.lines[0].phase()),
+        (Verdict::Met, Phase::Open)
+    );
     assert_eq!(
         open.lines[0].sets(),
         [PastSet {
@@ -167,7 +170,7 @@ fn one_set() {
     let (adjusted, verdict) = entered(fresh, 3, 121);
     assert_eq!(verdict, Verdict::Adjusted(Test::One, -10));
     assert_eq!(adjusted.lines[0].intercept, -10);
-    assert_eq!(adjusted.lines[0].phase, Phase::CheckDue);
+    assert_eq!(adjusted.lines[0].phase(), Phase::CheckDue);
     assert_eq!(entered(fresh, 3, -126).0.lines[0].intercept, 11);
     assert_eq!(entered(fresh, 3, -125).0.lines[0].intercept, 10);
 }
@@ -212,7 +215,10 @@ fn five_sets() {
 fn check_due() {
     let due = station(Phase::CheckDue, 40, 9, &[]);
     let (open, verdict) = entered(due, 9, 60);
-    assert_eq!((verdict, open.lines[0].phase), (Verdict::Met, Phase::Open));
+    assert_eq!(
+        (verdict, open.lines[0].phase()),
+        (Verdict::Met, Phase::Open)
+    );
     assert_eq!(
         open.lines[0].sets(),
         [PastSet {
@@ -224,7 +230,7 @@ fn check_due() {
     let (again, verdict) = entered(due, 9, 61);
     assert_eq!(verdict, Verdict::Adjusted(Test::Check, -5));
     assert_eq!(
-        (again.lines[0].intercept, again.lines[0].phase),
+        (again.lines[0].intercept, again.lines[0].phase()),
         (35, Phase::CheckDue)
     );
 }
@@ -236,7 +242,7 @@ fn shut_at_the_bound() {
     let (shut, verdict) = entered(near, 0, 126);
     assert_eq!(verdict, Verdict::Bounded(Test::One));
     assert_eq!(
-        (shut.lines[0].intercept, shut.lines[0].phase),
+        (shut.lines[0].intercept, shut.lines[0].phase()),
         (-990, Phase::CheckDue)
     );
 }
@@ -252,6 +258,58 @@ fn repairs() {
     due.repair(&rules, 99_999).unwrap();
     assert_eq!(due, station(Phase::CheckDue, 12, 99_999, &[]));
     assert_eq!(due.repair(&rules, 100_000), Err(2));
+}
+
+/// Number 0 looks at the row's lines and their held sets only; a number below 0 is no day, and a
+/// code other than 0, 1, 2 no phase.
+#[test]
+fn stored_stations() {
+    let rules = Rules::paper();
+    let open = station(Phase::Open, 12, 9, &[(9, 5), (8, 6)]);
+    let refused = |mut station: Station| station.repair(&rules, 9) == Err(0);
+    assert!(!refused(open));
+    for phase in [-1, 3, i64::from(i32::MIN), i64::from(i32::MAX)] {
+        let mut unknown = open;
+        unknown.lines[0].phase = phase;
+        assert!(refused(unknown));
+        unknown.lines[0].empty();
+        assert!(refused(unknown));
+        let mut spare = open;
+        spare.lines[2].phase = phase;
+        spare.lines[2].held = phase;
+        spare.lines[2].intercept = phase;
+        spare.repair(&rules, 9).unwrap();
+        let repaired = Line {
+            intercept: phase,
+            phase,
+            ..Line::FRESH
+        };
+        assert_eq!(spare.lines[2], repaired);
+    }
+    let damages: [fn(&mut Station); 6] = [
+        |station| station.row = -1,
+        |station| station.day = -1,
+        |station| station.lines[0].held = -1,
+        |station| station.lines[0].held = 5,
+        |station| station.lines[0].past[1].day = -1,
+        |station| station.lines[0].past[1].n = -12,
+    ];
+    for damage in damages {
+        let mut damaged = open;
+        damage(&mut damaged);
+        assert!(refused(damaged));
+    }
+    // A spare set is moved on as it is.
+    let mut spare = open;
+    let odd = PastSet {
+        day: -7,
+        s: 1 << 30,
+        n: -1,
+    };
+    spare.lines[0].past[2] = odd;
+    let (after, verdict) = entered(spare, 9, 0);
+    assert_eq!((verdict, after.lines[0].held), (Verdict::Met, 3));
+    assert_eq!(after.lines[0].past[3], odd);
 }
 
 #[test]
@@ -277,7 +335,10 @@ fn market_figures() {
         asked(open, 10, 13.45, Basis::Specified(5000)),
         Ok((135, 76))
     );
+    assert_eq!(asked(open, 10, 13.45, Basis::Unknown), Err(10));
+    assert_eq!(asked(open, 10, f32::NAN, Basis::Unknown), Err(9));
     let low = station(Phase::Open, -1000, 10, &[(10, 0)]);
+    assert_eq!(asked(low, 10, 9.99, Basis::Unknown), Err(10));
     assert_eq!(asked(low, 10, 9.99, Basis::Standard), Err(11));
     assert_eq!(asked(low, 10, 10.0, Basis::Standard), Ok((0, 0)));
     // h is judged though the line isn't open.
@@ -447,9 +508,9 @@ fn the_book_agrees() {
         let judged = station.sheet(&rules, day, 0, &numbers).unwrap();
         assert_eq!(book.sheet(&rules, day, 0, &numbers), Ok(judged.outcome));
         assert_eq!(book.intercept(0), station.lines[0].intercept);
-        assert_eq!(book.phase(0), station.lines[0].phase);
+        assert_eq!(book.phase(0), station.lines[0].phase());
         let held = station.lines[0].sets();
         assert_eq!(book.past(0)[..held.len()], *held);
     }
-    assert_eq!(station.lines[0].phase, Phase::Open);
+    assert_eq!(station.lines[0].phase(), Phase::Open);
 }

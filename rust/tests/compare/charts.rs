@@ -8,39 +8,46 @@ use grain_model::{Chart, ChartSet, ChartValues};
 use crate::encode::{self, ChartPlaces};
 use crate::lent::{Difference, Lent, same};
 use crate::rng::Rng;
-use crate::stations::{Trial, code, number};
+use crate::stations::{Trial, number, plain_answer};
 
-/// The ten values of the C interface.
-fn values(values: ChartValues) -> [i64; 10] {
-    let flag = i64::from;
-    [
-        values.week,
-        values.count,
-        values.sum,
-        values.range,
-        flag(values.absolute),
-        flag(values.tolerance),
-        flag(values.run),
-        flag(values.range_absolute),
-        flag(values.range_tolerance),
-        values.length as i64,
-    ]
+/// The C interface's answer to a set.
+fn charted(answer: Result<ChartValues, u8>) -> ffi::Charted {
+    match answer {
+        Ok(values) => ffi::Charted {
+            accepted: 1,
+            number: 0,
+            week: values.week as u32,
+            count: values.count as u32,
+            sum: values.sum as i32,
+            range: values.range as u32,
+            al: values.absolute.into(),
+            tl: values.tolerance.into(),
+            run: values.run.into(),
+            ral: values.range_absolute.into(),
+            rtl: values.range_tolerance.into(),
+            length: values.length as u32,
+        },
+        Err(number) => ffi::Charted {
+            number: number.into(),
+            ..ffi::Charted::default()
+        },
+    }
 }
 
-fn wrapped_values(values: grain::ChartValues) -> [i64; 10] {
-    let flag = i64::from;
-    [
-        values.week.into(),
-        values.count.into(),
-        values.sum.into(),
-        values.range.into(),
-        flag(values.average_absolute),
-        flag(values.average_tolerance),
-        flag(values.run),
-        flag(values.range_absolute),
-        flag(values.range_tolerance),
-        values.length as i64,
-    ]
+/// The wrapper's values in the model's terms.
+fn told(values: grain::ChartValues) -> ChartValues {
+    ChartValues {
+        week: values.week.into(),
+        count: values.count.into(),
+        sum: values.sum.into(),
+        range: values.range.into(),
+        absolute: values.average_absolute,
+        tolerance: values.average_tolerance,
+        run: values.run,
+        range_absolute: values.range_absolute,
+        range_tolerance: values.range_tolerance,
+        length: values.length,
+    }
 }
 
 impl Trial {
@@ -48,16 +55,16 @@ impl Trial {
     pub fn chart_open(&mut self, row: u64) -> Result<Option<ChartPlaces>, Difference> {
         let (chart, answer) = Chart::open(&self.rules, row);
         let fresh = encode::chart_places(&chart);
-        let mut lent = Lent::at_least(&mut self.rng, encode::CHART);
-        // SAFETY: the buffer is lent with its length.
-        let core = unsafe { ffi::grain_chart_open(row, lent.pointer(), lent.len()) };
+        let mut lent: Lent<i32> = Lent::exactly(&mut self.rng, encode::CHART);
+        // SAFETY: a chart's places are lent.
+        let core = unsafe { ffi::grain_chart_open(lent.pointer().cast(), row) };
         let what = || format!("opening chart row {row}");
-        same(what, core, code(&answer))?;
+        same(what, core, plain_answer(answer))?;
         lent.holds(what, &fresh)?;
         let wrapped = number(grain::Chart::open(row));
         same(
             what,
-            wrapped.map(|chart| *chart.places()),
+            wrapped.map(|chart| chart.places()),
             answer.map(|()| fresh),
         )?;
         self.met.call("chart open", answer.err());
@@ -75,46 +82,42 @@ impl Trial {
         let before = *places;
         let mut chart = encode::chart(&before);
         let mut model_line = vec![0; bytes];
-        let rules = &self.rules;
-        let judge = |chart: &mut Chart| chart.set(rules, week, numbers, &mut model_line);
-        let answer = chart.as_mut().map_or(Err(0), judge);
-        let (after, written) = match (&answer, chart) {
-            (Ok(values), Some(chart)) => (encode::chart_places(&chart), values.length),
-            _ => (before, 0),
+        let answer = chart.set(&self.rules, week, numbers, &mut model_line);
+        let (after, written) = match &answer {
+            Ok(values) => (encode::chart_places(&chart), values.length),
+            Err(_) => (before, 0),
         };
-        let expected = answer.map(values);
         let what = || format!("week {week}, {numbers:?}, {bytes} bytes, of chart {before:?}");
 
-        let mut state = Lent::holding(&mut self.rng, &before);
+        let mut state = Lent::of(&mut self.rng, &before);
         let mut pairs = Lent::of(&mut self.rng, numbers);
-        let mut result = Lent::at_least(&mut self.rng, 10);
         let mut line = Lent::exactly(&mut self.rng, bytes);
-        // SAFETY: the buffers are lent with their lengths.
+        // SAFETY: a chart's places and the arrays with their lengths are lent.
         let core = unsafe {
             ffi::grain_chart_set(
-                state.pointer(),
-                state.len(),
+                state.pointer().cast(),
                 week,
                 pairs.pointer(),
                 pairs.len(),
-                result.pointer(),
-                result.len(),
                 line.pointer(),
                 line.len(),
             )
         };
-        same(what, core, code(&answer))?;
+        same(what, core, charted(answer))?;
         state.holds(what, &after)?;
         pairs.untouched(what)?;
-        let places_of = |values: [i64; 10]| values.map(|value| value as i32).to_vec();
-        result.holds(what, &expected.map_or(vec![], places_of))?;
         line.holds(what, &model_line[..written])?;
+        let null = pairs.is_null() && answer == Err(20);
+        self.met
+            .branch_if(null, "chart: numbers null, refused by 20");
+        let null = line.is_null() && answer == Err(22);
+        self.met.branch_if(null, "chart: line null, refused by 22");
 
         let mut wrapper = grain::Chart::from_places(before);
         let mut line = Lent::exactly(&mut self.rng, bytes);
         let wrapped = number(wrapper.set(week, numbers, line.lent()));
-        same(what, wrapped.map(wrapped_values), expected)?;
-        same(what, wrapper.places(), &after)?;
+        same(what, wrapped.map(told), answer)?;
+        same(what, wrapper.places(), after)?;
         line.holds(what, &model_line[..written])?;
         self.met.call("chart set", answer.err());
         *places = after;
@@ -136,10 +139,10 @@ pub fn list(trial: &mut Trial, calls: usize) -> Result<(), Difference> {
 
 /// One set, mostly a good one.
 pub fn single(trial: &mut Trial, places: &mut ChartPlaces) -> Result<(), Difference> {
-    let sound = |chart: &Chart| chart.sound(&model::Rules::paper());
-    let chart = encode::chart(places)
-        .filter(sound)
-        .unwrap_or(Chart::fresh(0));
+    let chart = match encode::chart(places) {
+        chart if chart.sound(&model::Rules::paper()) => chart,
+        _ => Chart::fresh(0),
+    };
     let row = model::Rules::paper().charts[chart.row as usize].clone();
     let rng = &mut trial.rng;
     let week = a_week(rng, chart.last_week);

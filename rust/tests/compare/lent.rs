@@ -1,7 +1,8 @@
-//! Buffers lent to the core: filled with a pattern, longer than needed, and followed by a guard that
-//! is not lent at all. After the call every place is compared.
+//! Memory lent to the core: filled with a pattern, between two guards that are not lent at all. After
+//! the call every place is compared, those of the guards too.
 
 use std::fmt::Debug;
+use std::ptr;
 
 use crate::rng::Rng;
 
@@ -46,62 +47,55 @@ pub struct Lent<T> {
     before: Vec<T>,
     now: Vec<T>,
     len: usize,
+    null: bool,
 }
 
 impl<T: Pattern> Lent<T> {
-    /// A buffer of exactly this length.
+    /// So many places. Where there is none the pointer is sometimes null.
     pub fn exactly(rng: &mut Rng, len: usize) -> Lent<T> {
-        let before: Vec<T> = (0..len + GUARD).map(|_| T::pattern(rng)).collect();
+        let before: Vec<T> = (0..GUARD + len + GUARD).map(|_| T::pattern(rng)).collect();
         Lent {
             now: before.clone(),
             before,
             len,
+            null: len == 0 && rng.chance(50),
         }
     }
 
-    /// A buffer of at least this length.
-    pub fn at_least(rng: &mut Rng, len: usize) -> Lent<T> {
-        let more = if rng.chance(50) { 0 } else { rng.below(6) };
-        Lent::exactly(rng, len + more)
-    }
-
-    /// A buffer of exactly these places.
+    /// Exactly these places.
     pub fn of(rng: &mut Rng, places: &[T]) -> Lent<T> {
         let mut lent = Lent::exactly(rng, places.len());
-        lent.fill(places);
+        lent.lent().copy_from_slice(places);
+        lent.before.clone_from(&lent.now);
         lent
-    }
-
-    /// A buffer that starts with these places.
-    pub fn holding(rng: &mut Rng, places: &[T]) -> Lent<T> {
-        let mut lent = Lent::at_least(rng, places.len());
-        lent.fill(places);
-        lent
-    }
-
-    fn fill(&mut self, places: &[T]) {
-        self.before[..places.len()].copy_from_slice(places);
-        self.now[..places.len()].copy_from_slice(places);
     }
 
     pub fn pointer(&mut self) -> *mut T {
-        self.now.as_mut_ptr()
+        match self.null {
+            true => ptr::null_mut(),
+            false => self.lent().as_mut_ptr(),
+        }
+    }
+
+    pub fn is_null(&self) -> bool {
+        self.null
     }
 
     pub fn len(&self) -> usize {
         self.len
     }
 
-    /// The lent part, for the model to write to.
+    /// The lent part.
     pub fn lent(&mut self) -> &mut [T] {
-        &mut self.now[..self.len]
+        &mut self.now[GUARD..GUARD + self.len]
     }
 
-    /// The buffer holds these places at its start and is untouched after them.
+    /// The lent part starts with these places; everything else is as it was.
     pub fn holds(&self, what: impl Fn() -> String, written: &[T]) -> Result<(), Difference> {
-        let (now, later) = self.now.split_at(written.len());
-        same(&what, now, written)?;
-        same(&what, later, &self.before[written.len()..])
+        let end = GUARD + written.len();
+        same(&what, &self.now[GUARD..end], written)?;
+        same(&what, &self.now[..GUARD], &self.before[..GUARD])?;
+        same(&what, &self.now[end..], &self.before[end..])
     }
 
     pub fn untouched(&self, what: impl Fn() -> String) -> Result<(), Difference> {

@@ -95,11 +95,13 @@ pub fn openings(trial: &mut Trial) -> Result<(), Difference> {
     Ok(())
 }
 
-/// The station for the generator to look at; what is no station gives a fresh one.
+/// The station for the generator to look at; for one that isn't sound a fresh one.
 fn seen(subject: &Subject) -> Station {
-    let sound = |station: &Station| station.sound(&grain_model::Rules::paper());
     let station = encode::station(&subject.places);
-    station.filter(sound).unwrap_or(Station::fresh(0))
+    match station.sound(&grain_model::Rules::paper()) {
+        true => station,
+        false => Station::fresh(0),
+    }
 }
 
 fn any_call(trial: &mut Trial, subject: &mut Subject, lean: Lean) -> Result<(), Difference> {
@@ -157,7 +159,7 @@ fn repair(trial: &mut Trial, subject: &mut Subject, ending: bool) -> Result<(), 
         return Ok(());
     }
     for line in &station.lines[..lines(&station)] {
-        trial.met.branch(match line.phase {
+        trial.met.branch(match line.phase() {
             Phase::New => "repair: new line",
             Phase::Open => "repair: open line",
             Phase::CheckDue => "repair: check due line",
@@ -270,7 +272,7 @@ impl Writer<'_> {
     fn edge(&mut self, line: &Line, day: i64, n: i64) -> i64 {
         let limits = self.limits;
         let sets = line.sets();
-        let (count, limit) = match line.phase {
+        let (count, limit) = match line.phase() {
             Phase::CheckDue => (0, limits.check),
             _ => self.rng.pick(&[
                 (0, limits.one),
@@ -425,7 +427,7 @@ fn damage(rng: &mut Rng, numbers: &mut Vec<i32>) {
         let place = rng.below(numbers.len().max(1));
         let sample = place / 6 * 6;
         match rng.below(10) {
-            0 => numbers.truncate(place),
+            0 => numbers.truncate(rng.pick(&[0, place])),
             1 => numbers.extend([1300, 1300, 1300, -1, -1, -1]),
             2 => numbers.push(0),
             3 | 4 if place < numbers.len() => {
@@ -460,12 +462,12 @@ fn count_sheet(trial: &mut Trial, line: &Line, limits: &Limits, day: i64, judged
     met.branch_if(judged.dropped > 0 && n > 0, "sheet: some samples dropped");
     met.branch_if(day == 99_999, "sheet: on the last day");
     met.branch(match judged.verdict {
-        Verdict::NothingKept => match line.phase {
+        Verdict::NothingKept => match line.phase() {
             Phase::New => "sheet: shut, nothing kept, new line",
             Phase::Open => "sheet: shut, nothing kept, open line",
             Phase::CheckDue => "sheet: shut, nothing kept, check due line",
         },
-        Verdict::Met => match line.phase {
+        Verdict::Met => match line.phase() {
             Phase::New => "sheet: opens a new line",
             Phase::Open => "sheet: joins an open line",
             Phase::CheckDue => "sheet: opens a check due line",
@@ -505,7 +507,7 @@ fn count_met(trial: &mut Trial, line: &Line, limits: &Limits, set: PastSet) {
         let n = set.n + past.iter().map(|past| past.n).sum::<i64>();
         s.abs() == limit * n
     };
-    if line.phase == Phase::CheckDue {
+    if line.phase() == Phase::CheckDue {
         met.branch_if(at(0, limits.check), "sheet: at the check limit");
         return;
     }
@@ -634,14 +636,19 @@ fn a_basis(rng: &mut Rng, row: i64) -> (i64, u32, i32) {
         6 => standard,
         _ => rng.pick(&[-1, 0, 1, 1199, 1200, 1201, 4999, 5000, 5001]),
     };
-    match rng.below(8) {
-        0..2 => (standard, 0, rng.bits() as i32),
-        2..4 => (0, 1, rng.bits() as i32),
-        4..6 => (given, 2, given as i32),
-        6 => (given, 3, given as i32),
-        _ => {
+    match rng.below(32) {
+        0..8 => (standard, 0, rng.bits() as i32),
+        8..16 => (0, 1, rng.bits() as i32),
+        16..24 => (given, 2, given as i32),
+        24..28 => (given, 3, given as i32),
+        28..31 => {
             let given = rng.pick(&[i32::MIN, i32::MAX, -5000, 10_000, 65_536]);
             (i64::from(given), rng.pick(&[2, 3]), given)
+        }
+        // A kind that there isn't, mostly with a number that would do.
+        _ => {
+            let kind = rng.pick(&[4, 5, 7, 8, 255, 256, 258, 1 << 31, u32::MAX]);
+            (given, kind, given as i32)
         }
     }
 }
@@ -678,7 +685,7 @@ fn market(trial: &mut Trial, subject: &mut Subject, ending: bool) -> Result<(), 
     let scan_kind = match rng.below(100) {
         0..94 => station.row as u32,
         94..97 => 1 - station.row as u32,
-        _ => rng.pick(&[2, 3, 255, 257, u32::MAX]),
+        _ => rng.pick(&[2, 3, 255, 256, 257, 1 << 31, u32::MAX]),
     };
     let asked = Asked {
         day,
@@ -706,7 +713,7 @@ fn count_market(
         .sets()
         .first()
         .map(|newest| i64::from(asked.day) - newest.day);
-    let fault = asked.scan_kind > 1 && line.phase != Phase::Open;
+    let fault = asked.scan_kind > 1 && line.phase() != Phase::Open;
     let refused = |number| answer == Err(number);
     met.branch_if(
         refused(8) && fault,
@@ -715,6 +722,19 @@ fn count_market(
     met.branch_if(
         refused(8) && asked.scan_kind < 2,
         "market: another grain's scan",
+    );
+    let no_scan = refused(8) && asked.scan_kind > 255;
+    met.branch_if(no_scan, "market: no such kind of scan");
+    let no_basis = asked.basis_kind > 3 && (0..=5000).contains(&asked.basis);
+    met.branch_if(refused(10) && no_basis, "market: no such kind of basis");
+    met.branch_if(
+        refused(9) && no_basis,
+        "market: a float out of bounds before the kind of basis",
+    );
+    let not_open = line.phase() != Phase::Open;
+    met.branch_if(
+        refused(10) && no_basis && not_open,
+        "market: the kind of basis before a line that isn't open",
     );
     met.branch_if(
         refused(13) && age == Some(8),

@@ -1,5 +1,6 @@
 //! Compares the core, through its C interface and through the safe wrapper, with the independent
-//! model: after every call the answer, the state and every place of the lent buffers.
+//! model: after every call every field of the answer, every place of the state and of the lent arrays,
+//! and the guards beside them.
 //!
 //! `GRAIN_DAMAGE=n` runs the comparison with the n-th number of the model off by one, to see it
 //! fail. `GRAIN_SEED=n` takes another seed.
@@ -10,7 +11,6 @@ mod encode;
 mod lent;
 mod lists;
 mod met;
-mod misuse;
 mod readings;
 mod rng;
 mod stations;
@@ -75,7 +75,6 @@ fn compare(trial: &mut Trial, extent: &Extent) -> Result<(), Difference> {
         unsound::unsound_chart(trial)?;
         unsound::spare_chart_places(trial)?;
         unsound::any_chart(trial)?;
-        misuse::single(trial)?;
     }
     for round in 0..extent.handed_in {
         unsound::one_place(trial, round % encode::STATION)?;
@@ -146,16 +145,14 @@ fn a_damaged_model_is_caught() {
 fn all_floats() {
     let mut accepted = 0_u64;
     for bits in 0..=u32::MAX {
-        let mut hundredths = -7;
-        let float = f32::from_bits(bits);
-        // SAFETY: one place is lent.
-        let code = unsafe { grain::ffi::grain_reading(float, &mut hundredths, 1) };
-        let (expected, place) = match grain_model::reading(bits) {
-            Ok(reading) => (grain::ffi::OK, reading as i32),
-            Err(number) => (i32::from(number), -7),
+        let said = grain::ffi::grain_reading(f32::from_bits(bits));
+        let (expected, hundredths) = match grain_model::reading(bits) {
+            Ok(reading) => ([1, 0], reading as u32),
+            Err(number) => ([0, number.into()], 0),
         };
-        assert_eq!((code, hundredths), (expected, place), "{bits:08X}");
-        accepted += u64::from(code == grain::ffi::OK);
+        let answer = ([said.accepted, said.number], said.hundredths);
+        assert_eq!(answer, (expected, hundredths), "{bits:08X}");
+        accepted += u64::from(said.accepted);
     }
     say(&format!("all floats agree, {accepted} of them read"));
 }

@@ -18,7 +18,6 @@ const CALLS: &[(&str, &[usize])] = &[
     ("chart open", &[1]),
     ("chart set", &[0, 19, 20, 21, 22]),
     ("chart text", &[15, 16, 17, 18, 19, 21, 22]),
-    ("misuse", &[]),
 ];
 
 /// How often a call was compared, and its answers.
@@ -83,6 +82,7 @@ const BRANCHES: &[&str] = &[
     "sheet: line 0",
     "sheet: line 1",
     "sheet: line 2",
+    "sheet: numbers null, refused by 4",
     // Repairs.
     "repair: new line",
     "repair: open line",
@@ -105,10 +105,20 @@ const BRANCHES: &[&str] = &[
     "market: fault on a line that isn't open",
     "market: other floats of the corn set damaged",
     "market: another grain's scan",
+    "market: no such kind of scan",
+    "market: no such kind of basis",
+    "market: a float out of bounds before the kind of basis",
+    "market: the kind of basis before a line that isn't open",
     // Stations handed in.
     "station: row doesn't exist",
+    "station: row negative",
     "station: day above 99999",
+    "station: day negative",
     "station: intercept out of bounds",
+    "station: phase doesn't exist, nothing held",
+    "station: phase doesn't exist, sets held",
+    "station: held negative",
+    "station: set's day negative",
     "station: open without a set",
     "station: past set on a line that isn't open",
     "station: more than four held",
@@ -117,9 +127,16 @@ const BRANCHES: &[&str] = &[
     "station: N odd",
     "station: N out of bounds",
     "station: S out of bounds",
-    "station: no encoding",
-    "station: no encoding in a spare place",
-    "station: spare places filled, accepted",
+    "station: N negative",
+    "station: one place overwritten, refused by 0",
+    "station: one place overwritten, accepted",
+    "station: one spare place overwritten, accepted",
+    "station: hostile spare places, sheet accepted",
+    "station: hostile spare places, repair accepted",
+    "station: hostile spare places, market test accepted",
+    "station: a hostile spare set moves on",
+    "station: a line that the row lacks keeps its phase in a repair",
+    "station: a line that the row lacks is new after a repair",
     "station: any numbers",
     // Chart sets.
     "chart: average absolute above",
@@ -152,25 +169,30 @@ const BRANCHES: &[&str] = &[
     "chart: row 3",
     // Charts handed in.
     "chart: row doesn't exist",
+    "chart: row negative",
     "chart: last week above 9999",
+    "chart: last week negative",
     "chart: more than four held",
+    "chart: held negative",
     "chart: count out of bounds",
     "chart: sum out of bounds",
     "chart: range out of bounds",
-    "chart: no encoding",
-    "chart: no encoding in a spare place",
-    "chart: spare places filled, accepted",
+    "chart: one place overwritten, refused by 0",
+    "chart: one place overwritten, accepted",
+    "chart: one spare place overwritten, accepted",
+    "chart: hostile spare places, accepted",
+    "chart: a hostile spare set moves on",
     "chart: any numbers",
+    "chart: numbers null, refused by 20",
+    "chart: line null, refused by 22",
     // Texts.
     "text: names line alone",
     "text: accepted",
     "text: exactly 65536 bytes",
     "text: last line without line feed",
     "text: buffer of 40 bytes a line",
-    // Misuse.
-    "misuse: state array too short",
-    "misuse: result array too short",
-    "misuse: no such kind of basis",
+    "text: null, refused by 16",
+    "text: output null, refused by 22",
 ];
 
 impl Met {
@@ -204,6 +226,12 @@ impl Met {
     /// How often a refusal number was met.
     pub fn refused(&self, number: usize) -> u64 {
         self.calls.values().map(|count| count.refused[number]).sum()
+    }
+
+    /// How often a call was accepted.
+    pub fn accepted(&self, name: &str) -> u64 {
+        let count = &self.calls[name];
+        count.compared - count.refused.iter().sum::<u64>()
     }
 
     pub fn calls(&self) -> u64 {

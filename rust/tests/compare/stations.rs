@@ -48,7 +48,8 @@ impl Asked {
             0 => model::Basis::Standard,
             1 => model::Basis::Dry,
             2 => model::Basis::Specified(self.basis),
-            _ => model::Basis::AsIs(self.basis),
+            3 => model::Basis::AsIs(self.basis),
+            _ => model::Basis::Unknown,
         }
     }
 
@@ -65,21 +66,15 @@ impl Asked {
         }
     }
 
-    fn wrapped_basis(&self) -> grain::Basis {
+    /// None: the wrapper has no such kind.
+    fn wrapped_basis(&self) -> Option<grain::Basis> {
         match self.basis_kind {
-            0 => grain::Basis::Standard,
-            1 => grain::Basis::Dry,
-            2 => grain::Basis::Specified(self.basis),
-            _ => grain::Basis::AsIs(self.basis),
+            0 => Some(grain::Basis::Standard),
+            1 => Some(grain::Basis::Dry),
+            2 => Some(grain::Basis::Specified(self.basis)),
+            3 => Some(grain::Basis::AsIs(self.basis)),
+            _ => None,
         }
-    }
-}
-
-/// The C interface's code of an answer.
-pub fn code<T>(answer: &Result<T, u8>) -> i32 {
-    match answer {
-        Ok(_) => ffi::OK,
-        Err(number) => i32::from(*number),
     }
 }
 
@@ -88,15 +83,85 @@ pub fn number<T>(answer: Result<T, grain::Refusal>) -> Result<T, u8> {
     answer.map_err(grain::Refusal::number)
 }
 
-fn places(numbers: &[i64]) -> Vec<i32> {
-    numbers.iter().map(|&number| number as i32).collect()
+/// The C interface's answer that carries no values.
+pub fn plain_answer(answer: Result<(), u8>) -> ffi::Answer {
+    match answer {
+        Ok(()) => ffi::Answer {
+            accepted: 1,
+            number: 0,
+        },
+        Err(number) => ffi::Answer {
+            accepted: 0,
+            number: number.into(),
+        },
+    }
 }
 
-fn wrapped_phase(phase: grain::Phase) -> i64 {
-    match phase {
-        grain::Phase::New => 0,
-        grain::Phase::Open => 1,
-        grain::Phase::CheckDue => 2,
+fn value(answer: Result<i64, u8>) -> ffi::Value {
+    let ffi::Answer { accepted, number } = plain_answer(answer.map(|_| ()));
+    ffi::Value {
+        accepted,
+        number,
+        hundredths: answer.unwrap_or(0) as u32,
+    }
+}
+
+fn outcome(answer: Result<model::Outcome, u8>) -> ffi::Outcome {
+    match answer {
+        Ok(outcome) => ffi::Outcome {
+            accepted: 1,
+            number: 0,
+            sum: outcome.s as i32,
+            count: outcome.n as u32,
+            phase: outcome.phase.code() as u32,
+            change: outcome.change as i32,
+        },
+        Err(number) => ffi::Outcome {
+            number: number.into(),
+            ..ffi::Outcome::default()
+        },
+    }
+}
+
+fn certificate(answer: Result<Certificate, u8>) -> ffi::Certificate {
+    match answer {
+        Ok(certificate) => ffi::Certificate {
+            accepted: 1,
+            number: 0,
+            day: certificate.set_day as u32,
+            intercept: certificate.intercept as i32,
+            basis: certificate.basis as i32,
+            figure: certificate.corrected as u32,
+            converted: certificate.at_basis as u32,
+        },
+        Err(number) => ffi::Certificate {
+            number: number.into(),
+            ..ffi::Certificate::default()
+        },
+    }
+}
+
+/// The wrapper's outcome in the model's terms.
+fn told_outcome(outcome: grain::Outcome) -> model::Outcome {
+    model::Outcome {
+        s: outcome.sum.into(),
+        n: outcome.count.into(),
+        phase: match outcome.phase {
+            grain::Phase::New => model::Phase::New,
+            grain::Phase::Open => model::Phase::Open,
+            grain::Phase::CheckDue => model::Phase::CheckDue,
+        },
+        change: outcome.change.into(),
+    }
+}
+
+fn told_certificate(certificate: grain::Certificate) -> Certificate {
+    Certificate {
+        set_day: certificate.day.into(),
+        intercept: certificate.intercept.into(),
+        basis: certificate.basis.into(),
+        corrected: certificate.figure.into(),
+        at_basis: certificate.converted.into(),
     }
 }
 
@@ -111,14 +176,12 @@ impl Trial {
 
     pub fn reading(&mut self, bits: u32) -> Result<(), Difference> {
         let answer = model::reading(bits);
-        let mut hundredths = Lent::at_least(&mut self.rng, 1);
-        let (pointer, len) = (hundredths.pointer(), hundredths.len());
-        // SAFETY: the buffer is lent with its length.
-        let core = unsafe { ffi::grain_reading(f32::from_bits(bits), pointer, len) };
         let what = || format!("reading of {bits:08X}");
-        same(what, core, code(&answer))?;
-        let written: Vec<i32> = answer.iter().map(|&reading| reading as i32).collect();
-        hundredths.holds(what, &written)?;
+        same(
+            what,
+            ffi::grain_reading(f32::from_bits(bits)),
+            value(answer),
+        )?;
         let wrapped = number(grain::reading(f32::from_bits(bits)));
         same(what, wrapped.map(i64::from), answer)?;
         self.met.call("reading", answer.err());
@@ -129,16 +192,16 @@ impl Trial {
     pub fn open(&mut self, row: u64) -> Result<Option<Subject>, Difference> {
         let (station, answer) = model::Station::open(&self.rules, row);
         let fresh = encode::station_places(&station);
-        let mut lent = Lent::at_least(&mut self.rng, encode::STATION);
-        // SAFETY: the buffer is lent with its length.
-        let core = unsafe { ffi::grain_open(row, lent.pointer(), lent.len()) };
+        let mut lent: Lent<i32> = Lent::exactly(&mut self.rng, encode::STATION);
+        // SAFETY: a station's places are lent.
+        let core = unsafe { ffi::grain_open(lent.pointer().cast(), row) };
         let what = || format!("opening row {row}");
-        same(what, core, code(&answer))?;
+        same(what, core, plain_answer(answer))?;
         lent.holds(what, &fresh)?;
         let wrapped = number(grain::Station::open(row));
         same(
             what,
-            wrapped.map(|station| *station.places()),
+            wrapped.map(|station| station.places()),
             answer.map(|()| fresh),
         )?;
         self.met.call("open", answer.err());
@@ -149,15 +212,15 @@ impl Trial {
         }))
     }
 
-    /// The state after a call: the model's where it was accepted, else the one handed in.
+    /// The places after a call: the model's where it was accepted, else those handed in.
     fn after<T>(
         before: &StationPlaces,
-        station: Option<model::Station>,
+        station: &model::Station,
         answer: &Result<T, u8>,
     ) -> StationPlaces {
-        match (answer, station) {
-            (Ok(_), Some(station)) => encode::station_places(&station),
-            _ => *before,
+        match answer {
+            Ok(_) => encode::station_places(station),
+            Err(_) => *before,
         }
     }
 
@@ -170,60 +233,39 @@ impl Trial {
     ) -> Result<Result<Judged, u8>, Difference> {
         let before = subject.places;
         let mut station = encode::station(&before);
-        let rules = &self.rules;
-        let judge = |station: &mut model::Station| station.sheet(rules, day, line, numbers);
-        let answer = station.as_mut().map_or(Err(0), judge);
-        let after = Trial::after(&before, station, &answer);
-        let outcome = answer.map(|judged| {
-            let outcome = judged.outcome;
-            [
-                outcome.s,
-                outcome.n,
-                encode::phase_place(outcome.phase),
-                outcome.change,
-            ]
-        });
+        let answer = station.sheet(&self.rules, day, line, numbers);
+        let after = Trial::after(&before, &station, &answer);
+        let told = answer.map(|judged| judged.outcome);
         let what = || format!("sheet on day {day}, line {line}, {numbers:?} of {before:?}");
 
-        let mut state = Lent::holding(&mut self.rng, &before);
+        let mut state = Lent::of(&mut self.rng, &before);
         let mut sheet = Lent::of(&mut self.rng, numbers);
-        let mut result = Lent::at_least(&mut self.rng, 4);
-        // SAFETY: the buffers are lent with their lengths.
+        // SAFETY: a station's places and the numbers with their length are lent.
         let core = unsafe {
             ffi::grain_sheet(
-                state.pointer(),
-                state.len(),
+                state.pointer().cast(),
                 day,
                 line,
                 sheet.pointer(),
                 sheet.len(),
-                result.pointer(),
-                result.len(),
             )
         };
-        same(what, core, code(&answer))?;
+        same(what, core, outcome(told))?;
         state.holds(what, &after)?;
         sheet.untouched(what)?;
-        result.holds(what, &outcome.map_or(vec![], |outcome| places(&outcome)))?;
+        let null = sheet.is_null() && told == Err(4);
+        self.met
+            .branch_if(null, "sheet: numbers null, refused by 4");
 
         let mut wrapper = grain::Station::from_places(before);
-        let wrapped = number(wrapper.sheet(day, line, numbers)).map(|outcome| {
-            let (s, n, change) = (outcome.s, outcome.n, outcome.change);
-            [
-                s.into(),
-                n.into(),
-                wrapped_phase(outcome.phase),
-                change.into(),
-            ]
-        });
-        same(what, wrapped, outcome)?;
-        same(what, wrapper.places(), &after)?;
+        let wrapped = number(wrapper.sheet(day, line, numbers));
+        same(what, wrapped.map(told_outcome), told)?;
+        same(what, wrapper.places(), after)?;
         if let Some(book) = &mut subject.book {
-            let told = book.sheet(&self.rules, day, line, numbers);
             same(
                 || "the book on this sheet".to_string(),
+                book.sheet(&self.rules, day, line, numbers),
                 told,
-                answer.map(|judged| judged.outcome),
             )?;
         }
         self.met.call("sheet", answer.err());
@@ -238,20 +280,19 @@ impl Trial {
     ) -> Result<Result<(), u8>, Difference> {
         let before = subject.places;
         let mut station = encode::station(&before);
-        let repair = |station: &mut model::Station| station.repair(&self.rules, day);
-        let answer = station.as_mut().map_or(Err(0), repair);
-        let after = Trial::after(&before, station, &answer);
+        let answer = station.repair(&self.rules, day);
+        let after = Trial::after(&before, &station, &answer);
         let what = || format!("repair on day {day} of {before:?}");
 
-        let mut state = Lent::holding(&mut self.rng, &before);
-        // SAFETY: the buffer is lent with its length.
-        let core = unsafe { ffi::grain_repair(state.pointer(), state.len(), day) };
-        same(what, core, code(&answer))?;
+        let mut state = Lent::of(&mut self.rng, &before);
+        // SAFETY: a station's places are lent.
+        let core = unsafe { ffi::grain_repair(state.pointer().cast(), day) };
+        same(what, core, plain_answer(answer))?;
         state.holds(what, &after)?;
 
         let mut wrapper = grain::Station::from_places(before);
         same(what, number(wrapper.repair(day)), answer)?;
-        same(what, wrapper.places(), &after)?;
+        same(what, wrapper.places(), after)?;
         if let Some(book) = &mut subject.book {
             same(
                 || "the book on this repair".to_string(),
@@ -272,23 +313,16 @@ impl Trial {
         let before = subject.places;
         let mut station = encode::station(&before);
         let (scan, basis) = (asked.scan(), asked.basis());
-        let rules = &self.rules;
-        let judge = |station: &mut model::Station| {
-            station.market(rules, asked.day, asked.line, scan, basis)
-        };
-        let answer = station.as_mut().map_or(Err(0), judge);
-        let after = Trial::after(&before, station, &answer);
-        let figures = answer.map(|c| [c.set_day, c.intercept, c.basis, c.corrected, c.at_basis]);
+        let answer = station.market(&self.rules, asked.day, asked.line, scan, basis);
+        let after = Trial::after(&before, &station, &answer);
         let what = || format!("market test {asked:?} of {before:?}");
 
-        let mut state = Lent::holding(&mut self.rng, &before);
-        let mut result = Lent::at_least(&mut self.rng, 5);
+        let mut state = Lent::of(&mut self.rng, &before);
         let [first, second, third] = asked.floats.map(f32::from_bits);
-        // SAFETY: the buffers are lent with their lengths.
+        // SAFETY: a station's places are lent.
         let core = unsafe {
             ffi::grain_market(
-                state.pointer(),
-                state.len(),
+                state.pointer().cast(),
                 asked.day,
                 asked.line,
                 asked.scan_kind,
@@ -297,28 +331,19 @@ impl Trial {
                 third,
                 asked.basis_kind,
                 asked.basis,
-                result.pointer(),
-                result.len(),
             )
         };
-        same(what, core, code(&answer))?;
+        same(what, core, certificate(answer))?;
         state.holds(what, &after)?;
-        result.holds(what, &figures.map_or(vec![], |figures| places(&figures)))?;
 
-        let mut wrapper = grain::Station::from_places(before);
-        let (scan, basis) = (asked.wrapped_scan(), asked.wrapped_basis());
-        let wrapped = number(wrapper.market(asked.day, asked.line, scan, basis));
-        let wrapped = wrapped.map(|c| [c.set_day, c.intercept, c.basis, c.figure, c.at_basis]);
-        same(what, wrapped.map(|figures| figures.map(i64::from)), figures)?;
-        same(what, wrapper.places(), &after)?;
+        if let Some(basis) = asked.wrapped_basis() {
+            let mut wrapper = grain::Station::from_places(before);
+            let wrapped = wrapper.market(asked.day, asked.line, asked.wrapped_scan(), basis);
+            same(what, number(wrapped).map(told_certificate), answer)?;
+            same(what, wrapper.places(), after)?;
+        }
         if let Some(book) = &mut subject.book {
-            let told = book.market(
-                &self.rules,
-                asked.day,
-                asked.line,
-                asked.scan(),
-                asked.basis(),
-            );
+            let told = book.market(&self.rules, asked.day, asked.line, scan, basis);
             same(|| "the book on this market test".to_string(), told, answer)?;
         }
         self.met.call("market", answer.err());

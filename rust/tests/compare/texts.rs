@@ -6,7 +6,7 @@ use grain_model::text::{self, INPUT_NAMES};
 
 use crate::lent::{Difference, Lent, same};
 use crate::rng::Rng;
-use crate::stations::{Trial, code};
+use crate::stations::Trial;
 
 impl Trial {
     /// Charts a text into a buffer of `bytes`.
@@ -23,26 +23,31 @@ impl Trial {
 
         let mut lent = Lent::of(&mut self.rng, text);
         let mut out = Lent::exactly(&mut self.rng, bytes);
-        let mut place = Lent::at_least(&mut self.rng, 1);
-        // SAFETY: the buffers are lent with their lengths.
-        let core = unsafe {
-            ffi::grain_chart_text(
-                lent.pointer(),
-                lent.len(),
-                out.pointer(),
-                out.len(),
-                place.pointer(),
-                place.len(),
-            )
+        // SAFETY: the arrays are lent with their lengths.
+        let core =
+            unsafe { ffi::grain_chart_text(lent.pointer(), lent.len(), out.pointer(), out.len()) };
+        let expected = match answer {
+            Ok(length) => ffi::Written {
+                accepted: 1,
+                number: 0,
+                line: 0,
+                length: length as u32,
+            },
+            Err(refusal) => ffi::Written {
+                accepted: 0,
+                number: refusal.number.into(),
+                line: refusal.line as u32,
+                length: 0,
+            },
         };
-        let (written, said) = match answer {
-            Ok(length) => (length, length as i32),
-            Err(refusal) => (0, refusal.line as i32),
-        };
-        same(what, core, code(&answer.map_err(|refusal| refusal.number)))?;
+        let written = answer.unwrap_or(0);
+        same(what, core, expected)?;
         lent.untouched(what)?;
-        place.holds(what, &[said])?;
         out.holds(what, &model_out[..written])?;
+        let null = lent.is_null() && core.number == 16;
+        self.met.branch_if(null, "text: null, refused by 16");
+        let null = out.is_null() && core.number == 22;
+        self.met.branch_if(null, "text: output null, refused by 22");
 
         let refusal = |refused: grain::TextRefusal| TextRefusal {
             number: refused.refusal.number(),
@@ -83,7 +88,7 @@ pub fn single(trial: &mut Trial) -> Result<(), Difference> {
     let lines = text.iter().filter(|&&byte| byte == b'\n').count().max(1);
     let needed = 40 * (starts(&text) + 1);
     let bytes = match rng.below(10) {
-        0 => needed - 1,
+        0 => rng.pick(&[0, needed - 1]),
         1 => rng.below(needed),
         2..6 => needed,
         _ => 40 * lines + rng.below(9),

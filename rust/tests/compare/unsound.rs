@@ -1,6 +1,7 @@
 //! Stations and charts handed in that no call has handed back: one thing wrong, or any numbers.
 
-use grain_model::{Chart, ChartSet, Line, PastSet, Phase, Station};
+use grain_model::station::BLANK;
+use grain_model::{Chart, ChartSet, Line, PastSet, Phase, Station, chart};
 
 use crate::charts;
 use crate::encode::{self, ChartPlaces, StationPlaces};
@@ -60,10 +61,10 @@ pub fn sound_station(rng: &mut Rng) -> Station {
             _ => rng.range(-1000, 1000),
         };
         if rng.chance(20) {
-            line.phase = rng.pick(&[Phase::New, Phase::CheckDue]);
+            line.phase = rng.pick(&[Phase::New, Phase::CheckDue]).code();
             continue;
         }
-        line.phase = Phase::Open;
+        line.phase = Phase::Open.code();
         let mut day = (station.day - 60).max(0);
         for _ in 0..rng.range(2, 4) {
             day = match rng.chance(50) {
@@ -89,20 +90,49 @@ const WRONG_LINES: &[Wrong<(Line, i64, i64)>] = &[
     ("station: intercept out of bounds", |rng, (line, ..)| {
         line.intercept = rng.pick(&[-1001, 1001, i32::MIN.into(), i32::MAX.into()]);
     }),
+    (
+        "station: phase doesn't exist, nothing held",
+        |rng, (line, ..)| {
+            line.phase = no_phase(rng);
+            line.empty();
+        },
+    ),
+    (
+        "station: phase doesn't exist, sets held",
+        |rng, (line, ..)| {
+            let held = rng.range(1, 4);
+            *line = open_line(rng, held);
+            line.phase = no_phase(rng);
+        },
+    ),
+    ("station: held negative", |rng, (line, ..)| {
+        line.held = rng.pick(&[-1, -4, i32::MIN.into(), i64::from(i32::MIN) + 1]);
+    }),
     ("station: open without a set", |_, (line, ..)| {
-        line.phase = Phase::Open;
+        line.phase = Phase::Open.code();
         line.held = 0;
     }),
     (
         "station: past set on a line that isn't open",
         |rng, (line, ..)| {
-            line.phase = rng.pick(&[Phase::New, Phase::CheckDue]);
-            line.held = line.held.max(1);
+            let held = rng.range(1, 4);
+            *line = open_line(rng, held);
+            line.phase = rng.pick(&[Phase::New, Phase::CheckDue]).code();
         },
     ),
     ("station: more than four held", |rng, (line, ..)| {
-        line.phase = Phase::Open;
-        line.held = rng.pick(&[5, 6, 1 << 16, i32::MAX.into()]);
+        *line = open_line(rng, 4);
+        line.held = rng.pick(&[5, 6, 1 << 16, 65_540, i32::MAX.into()]);
+    }),
+    ("station: set's day negative", |rng, (line, ..)| {
+        let held = rng.range(1, 4);
+        *line = open_line(rng, held);
+        line.past[held as usize - 1].day = rng.pick(&[-1, i32::MIN.into()]);
+    }),
+    ("station: N negative", |rng, (line, ..)| {
+        let held = rng.range(1, 4);
+        *line = open_line(rng, held);
+        line.past[held as usize - 1].n = rng.pick(&[-1, -2, -12, i32::MIN.into()]);
     }),
     ("station: days rise", |rng, (line, day, _)| {
         *line = open_line(rng, 2);
@@ -124,7 +154,8 @@ const WRONG_LINES: &[Wrong<(Line, i64, i64)>] = &[
     ("station: N out of bounds", |rng, (line, _, samples)| {
         let held = rng.range(1, 4);
         *line = open_line(rng, held);
-        line.past[held as usize - 1].n = rng.pick(&[0, 2 * *samples + 2, 1 << 30]);
+        line.past[held as usize - 1].n =
+            rng.pick(&[0, 2 * *samples + 2, 1 << 30, i64::from(i32::MAX) - 1]);
     }),
     ("station: S out of bounds", |rng, (line, ..)| {
         let held = rng.range(1, 4);
@@ -135,11 +166,17 @@ const WRONG_LINES: &[Wrong<(Line, i64, i64)>] = &[
     }),
 ];
 
+/// A number that stands for no phase.
+fn no_phase(rng: &mut Rng) -> i64 {
+    let codes = [-1, 3, 4, 256, 257, 65_537, i32::MIN.into(), i32::MAX.into()];
+    rng.pick(&codes)
+}
+
 /// A sound open line whose sets are of day 0.
 fn open_line(rng: &mut Rng, held: i64) -> Line {
     let mut line = Line {
         intercept: rng.range(-1000, 1000),
-        phase: Phase::Open,
+        phase: Phase::Open.code(),
         ..Line::FRESH
     };
     for _ in 0..held {
@@ -164,13 +201,22 @@ pub fn unsound_station(trial: &mut Trial) -> Result<(), Difference> {
             station.lines[place] = line.0;
             name
         }
-        None if rng.chance(50) => {
-            station.row = rng.pick(&[2, 3, i32::MAX.into()]);
-            "station: row doesn't exist"
-        }
         None => {
-            station.day = rng.pick(&[100_000, i32::MAX.into()]);
-            "station: day above 99999"
+            let negative = rng.pick(&[-1, i32::MIN.into()]);
+            let (row, day, name) = rng.pick(&[
+                (2, station.day, "station: row doesn't exist"),
+                (i32::MAX.into(), station.day, "station: row doesn't exist"),
+                (negative, station.day, "station: row negative"),
+                (station.row, 100_000, "station: day above 99999"),
+                (station.row, i32::MAX.into(), "station: day above 99999"),
+                (station.row, negative, "station: day negative"),
+            ]);
+            (station.row, station.day) = (row, day);
+            // No set may be the reason.
+            if day < 0 {
+                station.lines = [Line::FRESH; 3];
+            }
+            name
         }
     };
     let places = encode::station_places(&station);
@@ -185,7 +231,7 @@ fn on_station(trial: &mut Trial, places: StationPlaces) -> Result<(), Difference
     lists::single(trial, &mut Subject { places, book: None })
 }
 
-/// A sound station whose spare places are filled, and a few calls on it.
+/// A sound station whose spare places hold anything, and a few calls on it.
 pub fn spare_places(trial: &mut Trial) -> Result<(), Difference> {
     let rng = &mut trial.rng;
     let mut station = sound_station(rng);
@@ -194,25 +240,63 @@ pub fn spare_places(trial: &mut Trial) -> Result<(), Difference> {
         let spare = place >= lines;
         if spare {
             line.intercept = rng.pick(&EDGES).into();
-            line.phase = rng.pick(&[Phase::New, Phase::Open, Phase::CheckDue]);
-            line.held = rng.pick(&[0, 1, 4, 5, i32::MAX.into()]);
+            line.phase = rng.pick(&EDGES).into();
+            line.held = rng.pick(&EDGES).into();
         }
         let held = if spare { 0 } else { line.held as usize };
         for set in &mut line.past[held..] {
-            set.day = i64::from(rng.pick(&EDGES)).max(0);
+            set.day = rng.pick(&EDGES).into();
             set.s = rng.pick(&EDGES).into();
-            set.n = i64::from(rng.pick(&EDGES)).max(0);
+            set.n = rng.pick(&EDGES).into();
         }
     }
     let places = encode::station_places(&station);
     let mut subject = Subject { places, book: None };
     for _ in 0..6 {
-        let before = subject.places;
-        lists::single(trial, &mut subject)?;
-        let accepted = subject.places != before;
-        trial
-            .met
-            .branch_if(accepted, "station: spare places filled, accepted");
+        beside_spare_places(trial, &mut subject, lines)?;
+    }
+    Ok(())
+}
+
+/// A call on a station whose spare places hold anything, and what came of them.
+fn beside_spare_places(
+    trial: &mut Trial,
+    subject: &mut Subject,
+    lines: usize,
+) -> Result<(), Difference> {
+    let accepted =
+        |trial: &Trial| ["sheet", "repair", "market"].map(|call| trial.met.accepted(call));
+    let (before, counts) = (encode::station(&subject.places), accepted(trial));
+    lists::single(trial, subject)?;
+    let after = encode::station(&subject.places);
+    let rose = accepted(trial);
+    let [sheet, repair, market] = [0, 1, 2].map(|call| rose[call] > counts[call]);
+    let met = &mut trial.met;
+    met.branch_if(sheet, "station: hostile spare places, sheet accepted");
+    met.branch_if(repair, "station: hostile spare places, repair accepted");
+    met.branch_if(
+        market,
+        "station: hostile spare places, market test accepted",
+    );
+    for (place, (line, then)) in before.lines.iter().zip(&after.lines).enumerate() {
+        if place < lines {
+            let held = line.held as usize;
+            let moves_on = sheet
+                && (1..3).contains(&held)
+                && then.held == line.held + 1
+                && line.past[held] != BLANK
+                && then.past[held + 1] == line.past[held];
+            met.branch_if(moves_on, "station: a hostile spare set moves on");
+        } else if repair {
+            met.branch_if(
+                !(0..=2).contains(&line.phase) && then.phase == line.phase,
+                "station: a line that the row lacks keeps its phase in a repair",
+            );
+            met.branch_if(
+                line.phase == 1 && then.phase == 0,
+                "station: a line that the row lacks is new after a repair",
+            );
+        }
     }
     Ok(())
 }
@@ -220,29 +304,40 @@ pub fn spare_places(trial: &mut Trial) -> Result<(), Difference> {
 /// One place of a sound station overwritten with a number beside some edge.
 pub fn one_place(trial: &mut Trial, place: usize) -> Result<(), Difference> {
     for edge in EDGES {
-        let mut places = encode::station_places(&sound_station(&mut trial.rng));
+        let station = sound_station(&mut trial.rng);
+        let mut places = encode::station_places(&station);
         places[place] = edge;
+        let accepted = |trial: &Trial| {
+            ["sheet", "repair", "market"]
+                .map(|call| trial.met.accepted(call))
+                .iter()
+                .sum::<u64>()
+        };
+        let before = (trial.met.refused(0), accepted(trial));
         on_station(trial, places)?;
-        if encode::station(&places).is_some() {
-            continue;
-        }
-        trial.met.branch("station: no encoding");
-        let spare = places[0] == 0 && place >= 17;
-        trial
-            .met
-            .branch_if(spare, "station: no encoding in a spare place");
+        let refused = trial.met.refused(0) > before.0;
+        let accepted = accepted(trial) > before.1;
+        let met = &mut trial.met;
+        met.branch_if(refused, "station: one place overwritten, refused by 0");
+        met.branch_if(accepted, "station: one place overwritten, accepted");
+        let spare = station.row == 0 && place >= 17;
+        met.branch_if(
+            accepted && spare,
+            "station: one spare place overwritten, accepted",
+        );
     }
     Ok(())
 }
 
 /// Any numbers.
 pub fn any_station(trial: &mut Trial) -> Result<(), Difference> {
-    let small = trial.rng.chance(50);
+    let kind = trial.rng.below(3);
     let mut places: StationPlaces = [0; encode::STATION];
     for place in &mut places {
-        *place = match small {
-            true => trial.rng.pick(&[0, 0, 1, 1, 2, 3, 4, -1]),
-            false => trial.rng.bits() as i32,
+        *place = match kind {
+            0 => trial.rng.pick(&[0, 0, 1, 1, 2, 3, 4, -1]),
+            1 => trial.rng.pick(&EDGES),
+            _ => trial.rng.bits() as i32,
         };
     }
     trial.met.branch("station: any numbers");
@@ -283,14 +378,23 @@ const WRONG_CHARTS: &[Wrong<Chart>] = &[
     ("chart: row doesn't exist", |rng, chart| {
         chart.row = rng.pick(&[4, 5, i32::MAX.into()]);
     }),
+    ("chart: row negative", |rng, chart| {
+        chart.row = rng.pick(&[-1, i32::MIN.into()]);
+    }),
     ("chart: last week above 9999", |rng, chart| {
         chart.last_week = rng.pick(&[10_000, i32::MAX.into()]);
+    }),
+    ("chart: last week negative", |rng, chart| {
+        chart.last_week = rng.pick(&[-1, i32::MIN.into()]);
     }),
     ("chart: more than four held", |rng, chart| {
         chart.held = rng.pick(&[5, 6, 1 << 20, i32::MAX.into()]);
     }),
+    ("chart: held negative", |rng, chart| {
+        chart.held = rng.pick(&[-1, -4, i32::MIN.into()]);
+    }),
     ("chart: count out of bounds", |rng, chart| {
-        held_set(rng, chart).count = rng.pick(&[0, 6, i32::MAX.into()]);
+        held_set(rng, chart).count = rng.pick(&[-1, 0, 6, i32::MIN.into(), i32::MAX.into()]);
     }),
     ("chart: sum out of bounds", |rng, chart| {
         let far = rng.pick(&[1, i64::from(i32::MAX) - 50_000]);
@@ -315,23 +419,32 @@ pub fn unsound_chart(trial: &mut Trial) -> Result<(), Difference> {
     Ok(())
 }
 
-/// A sound chart whose spare places are filled, and a few sets on it.
+/// A sound chart whose spare places hold anything, and a few sets on it.
 pub fn spare_chart_places(trial: &mut Trial) -> Result<(), Difference> {
     let rng = &mut trial.rng;
     let mut chart = sound_chart(rng);
     for set in &mut chart.sets[chart.held as usize..] {
-        set.count = i64::from(rng.pick(&EDGES)).max(0);
+        set.count = rng.pick(&EDGES).into();
         set.sum = rng.pick(&EDGES).into();
         set.range = rng.pick(&EDGES).into();
     }
     let mut places = encode::chart_places(&chart);
     for _ in 0..3 {
-        let before = places;
+        let before = encode::chart(&places);
+        let count = trial.met.accepted("chart set");
         charts::single(trial, &mut places)?;
-        let accepted = places != before;
+        if trial.met.accepted("chart set") == count {
+            continue;
+        }
+        trial.met.branch("chart: hostile spare places, accepted");
+        let held = before.held as usize;
+        let after = encode::chart(&places);
+        let moves_on = held < 3
+            && before.sets[held] != chart::BLANK
+            && after.sets[held + 1] == before.sets[held];
         trial
             .met
-            .branch_if(accepted, "chart: spare places filled, accepted");
+            .branch_if(moves_on, "chart: a hostile spare set moves on");
     }
     Ok(())
 }
@@ -342,25 +455,31 @@ pub fn one_chart_place(trial: &mut Trial, place: usize) -> Result<(), Difference
         let chart = sound_chart(&mut trial.rng);
         let mut places = encode::chart_places(&chart);
         places[place] = edge;
-        let encodes = encode::chart(&places).is_some();
+        let before = (trial.met.refused(0), trial.met.accepted("chart set"));
         charts::single(trial, &mut places)?;
-        trial.met.branch_if(!encodes, "chart: no encoding");
+        let refused = trial.met.refused(0) > before.0;
+        let accepted = trial.met.accepted("chart set") > before.1;
+        let met = &mut trial.met;
+        met.branch_if(refused, "chart: one place overwritten, refused by 0");
+        met.branch_if(accepted, "chart: one place overwritten, accepted");
         let spare = place >= 3 + 3 * chart.held as usize;
-        trial
-            .met
-            .branch_if(!encodes && spare, "chart: no encoding in a spare place");
+        met.branch_if(
+            accepted && spare,
+            "chart: one spare place overwritten, accepted",
+        );
     }
     Ok(())
 }
 
 /// Any numbers.
 pub fn any_chart(trial: &mut Trial) -> Result<(), Difference> {
-    let small = trial.rng.chance(50);
+    let kind = trial.rng.below(3);
     let mut places: ChartPlaces = [0; encode::CHART];
     for place in &mut places {
-        *place = match small {
-            true => trial.rng.pick(&[0, 1, 1, 2, 3, 4, 5, -1]),
-            false => trial.rng.bits() as i32,
+        *place = match kind {
+            0 => trial.rng.pick(&[0, 1, 1, 2, 3, 4, 5, -1]),
+            1 => trial.rng.pick(&EDGES),
+            _ => trial.rng.bits() as i32,
         };
     }
     trial.met.branch("chart: any numbers");

@@ -1,97 +1,68 @@
--- `chart::chart_at` meets its contract.
-use mathlib.Core.Path.{_≡_, refl, sym, ap, _∙_}
-use native.Mathlib.Omega.{arith}
+use mathlib.Core.Path.{sym, ap, _∙_}
 use Prim.Native.Nat.{_-_}
 use lib.ListN.{length}
 use denote.Ref.{now}
-use Rattle.chart_sets.proofs.Soundness.{all-fit}
-use Rattle.chart_state.specs.Charts.{nextChart, pastOf}
-use Rattle.chart_line.specs.Lines.{valuesOf, lineOf}
-use Rattle.chart_refusals.specs.Checks.{refusalOf}
-use Rattle.chart.specs.Calls.{resultOf, decided, accepted, bytesOf}
-use Rattle.chart_line.specs.declared.Values.{Values}
-use Rattle.chart_refusals.specs.declared.Judgement.{Judgement}
-use Rattle.chart.specs.declared.ChartAnswer.the-variants.{Charted}
+use Rattle.chart_state.specs.Charts.{nextChart}
 use Rattle.chart_state.proofs.Soundness.{sound-chart}
-use Rattle.chart_refusals.proofs.Fine.{FineCall, fine-call}
-use Rattle.chart.proofs.Soundness.{fine-set}
-use Rattle.chart_bounds.proofs.Bounds.{week-facts}
-use Rattle.chart_line.proofs.Lines.{values-small}
+use Rattle.chart.proofs.Accepted.{accepted-call, refused-call, put-by}
 use borrow.Author.Needs.{needs}
 use Rattle.chart.proofs.chart_at.Statement.{statement}
 use Rattle.chart.proofs.chart_at.Tie as tie
 
-judged : (c : tie.After-judge-call) (j : Judgement) → c .judge-call .result ≡ j
-    → refusalOf (c .before .before .args .chart) (c .before .before .args .week) (now (c .before .before .args .numbers)) (length (now (c .before .before .args .out)) - c .before .before .args .at) ≡ j
-judged c j e = sym (c .judge-call .ensures) ∙ e
-
-fine : (c : tie.After-enum-told) → FineCall (c .before .before .before .before .args .chart) (c .before .before .before .before .args .week) (now (c .before .before .before .before .args .numbers)) (length (now (c .before .before .before .before .args .out)) - c .before .before .before .before .args .at)
-fine c = fine-call _ _ _ _ (judged (c .before .before) _ (c .enum-told .given .1))
-
-sub-room : tie.Need-sub-room
-sub-room c = search needs
-
-judge-call-requires : tie.Need-judge-call-requires
-judge-call-requires c κs = search needs
+answer-at-requires : tie.Need-answer-at-requires
+answer-at-requires c κs = search needs
 
 enum-known-refusal : tie.Need-enum-known-refusal
 enum-known-refusal c = search needs
 
-enum-told : tie.Need-enum-told
-enum-told c = search needs
+enum-known-values : tie.Need-enum-known-values
+enum-known-values c = search needs
 
-set-of-requires : tie.Need-set-of-requires
-set-of-requires c κs = let f = fine c in (f .size, f .results)
-
-values-of-requires : tie.Need-values-of-requires
-values-of-requires c κs = let f = fine (c .before) in (rw (c .set-of .ensures) (fine-set _ _ _ _ f), all-fit (pastOf (c .before .before .before .before .before .args .chart)) (sound-chart _ (f .whole) .sets))
-
-write-values-requires : tie.Need-write-values-requires
-write-values-requires c κs =
-    let f = fine (c .before .before .before) in
-    let w = week-facts _ _ (f .time) .1 in
-    (omega (arith, f .place), rw (c .before .values-of .ensures) (values-small _ _ _ w (rw (c .before .before .set-of .ensures) (fine-set _ _ _ _ f))))
+set-in-requires : tie.Need-set-in-requires
+set-in-requires c κs = search needs
 
 next-chart-requires : tie.Need-next-chart-requires
-next-chart-requires c κs = sound-chart _ (fine (c .before .before .before .before .before .before) .whole) .held
-
-sub-t18 : tie.Need-sub-t18
-sub-t18 c = search needs
-
-returns : tie.Need-returns
-unfolding resultOf decided bytesOf
-returns c = (rw (judged (c .before .before .before) _ (c .before .refusal .given .1)), record { written = refl; behind = refl })
+next-chart-requires c κs =
+    let answered = sym (c .before .before .before .before .before .before .answer-at .ensures .0) ∙ c .before .before .values .given .1 in
+    sound-chart _ (accepted-call (c .before .before .before .before .before .before .before .before .before .args .chart) (c .before .before .before .before .before .before .before .before .before .args .week) (now (c .before .before .before .before .before .before .before .before .before .args .numbers)) (length (now (c .before .before .before .before .before .before .before .before .before .args .out)) - c .before .before .before .before .before .before .before .before .before .args .at) _ _ answered .fine .whole) .held
 
 same-length : tie.Need-same-length
 same-length c = search needs
 
+returns : tie.Need-returns
+returns c =
+    let s = c .before .before .before .before .before .before .before .before in
+    let told = c .before .refusal .given .1 in
+    let answered = sym (c .before .before .before .before .before .answer-at .ensures .0) ∙ told in
+    let same = refused-call (c .before .before .before .before .before .before .before .before .args .chart) (c .before .before .before .before .before .before .before .before .args .week) (now (c .before .before .before .before .before .before .before .before .args .numbers)) (length (now (c .before .before .before .before .before .before .before .before .args .out)) - c .before .before .before .before .before .before .before .before .args .at) _ answered in (
+      λ i. record { chart = sym same i; answer = sym answered i },
+      put-by told (c .before .before .before .before .before .answer-at .ensures .1),
+    )
+
+same-length-2 : tie.Need-same-length-2
+same-length-2 c = search needs
+
 returns-2 : tie.Need-returns-2
-unfolding resultOf decided accepted bytesOf
 returns-2 c =
-    let s = c .before .before .before .before .before .before .before .before .before .before .before in
-    let set = c .before .before .before .before .before .before .set-of .ensures in
-    let next = c .next-chart .ensures ∙ ap (nextChart (s .args .chart) (s .args .week)) set in
-    let values = c .before .before .before .before .before .values-of .ensures ∙ ap (valuesOf (s .args .chart) (s .args .week)) set in
-    let put = c .before .before .before .write-values .ensures .0 in
-    let long : c .before .before .before .write-values .result - s .args .at ≡ length (lineOf (c .before .before .before .before .before .values-of .result)) = omega (arith, put .behind) in
-    let long2 = long ∙ ap (λ (v : Values). length (lineOf v)) values in (
-      rw (judged (c .before .before .before .before .before .before .before .before .before) _ (c .before .before .before .before .before .before .before .enum-told .given .1)) (λ i. record { chart = next i; answer = Charted (values i) (long2 i) }),
-      record { written = put .written; behind = refl },
+    let s = c .before .before .before .before .before .before .before .before .before .before in
+    let told = c .before .before .before .values .given .1 in
+    let answered = sym (c .before .before .before .before .before .before .before .answer-at .ensures .0) ∙ told in
+    let call = accepted-call (c .before .before .before .before .before .before .before .before .before .before .args .chart) (c .before .before .before .before .before .before .before .before .before .before .args .week) (now (c .before .before .before .before .before .before .before .before .before .before .args .numbers)) (length (now (c .before .before .before .before .before .before .before .before .before .before .args .out)) - c .before .before .before .before .before .before .before .before .before .before .args .at) _ _ answered in
+    let next = c .next-chart .ensures ∙ ap (nextChart (s .args .chart) (s .args .week)) (c .before .set-in .ensures ∙ call .set) ∙ sym (call .chart) in (
+      λ i. record { chart = next i; answer = sym answered i },
+      put-by told (c .before .before .before .before .before .before .before .answer-at .ensures .1),
     )
 
 pub chart-at-spec : {M : Type 1} → statement M
 chart-at-spec =
     tie.close
     (tie.spec
-    sub-room
-    judge-call-requires
+    answer-at-requires
     enum-known-refusal
-    enum-told
-    set-of-requires
-    values-of-requires
-    write-values-requires
+    enum-known-values
+    set-in-requires
     next-chart-requires
-    sub-t18
-    returns
     same-length
+    returns
+    same-length-2
     returns-2)

@@ -1,31 +1,94 @@
--- `chart::chart_set` meets its contract.
-use Rattle.chart.proofs.Charted.{line-fits, call-is}
-use mathlib.Core.Path.{_≡_, ap, _∙_}
+use mathlib.Core.Path.{_≡_, refl, sym, ap, _∙_}
 use native.Mathlib.Omega.{arith}
 use Prim.Native.Nat.{_-_, _≤_}
 use lib.ListN.{length}
 use denote.Ref.{now}
-use Rattle.chart.specs.Calls.{resultOf, bytesOf}
+use Rattle.decimal.specs.Put.{overwritten}
 use Rattle.decimal.proofs.Put.{put-whole}
+use Rattle.chart_places.specs.ChartPlaces.{chartAt, nextPlaces}
+use Rattle.chart.specs.Calls.{resultOf, bytesOf}
+use Rattle.chart.specs.declared.ChartAnswer.{ChartAnswer}
+use Rattle.chart.proofs.Charted.{line-fits}
+use Rattle.chart.proofs.Accepted.{put-by}
+use Rattle.chart.proofs.InPlace.{ready, call-in}
 use borrow.Author.Needs.{needs}
 use Rattle.chart.proofs.chart_set.Statement.{statement}
 use Rattle.chart.proofs.chart_set.Tie as tie
 
+-- the answer, by the definition on the chart that the places hold
+answered : (c : tie.After-answer-at) (a : ChartAnswer) → c .answer-at .result ≡ a
+    → a ≡ resultOf (chartAt (now (c .before .before .before .before .before .args .state))) (c .before .before .before .before .before .args .week) (now (c .before .before .before .before .before .args .numbers)) (length (now (c .before .before .before .before .before .args .out))) .answer
+answered c a e =
+    let s = c .before .before .before .before .before in
+    let old = now (s .args .out) in
+    let all : length old - 0 ≡ length old = omega arith in
+    sym e ∙ c .answer-at .ensures .0
+    ∙ (λ i. resultOf (c .before .before .chart-at .ensures i) (s .args .week) (now (s .args .numbers)) (all i) .answer)
+
+bytes : (c : tie.After-answer-at) (a : ChartAnswer) → c .answer-at .result ≡ a → c .answer-at .last .1 .1 .1 .0 ≡ overwritten (bytesOf a) (now (c .before .before .before .before .before .args .out))
+bytes c a e =
+    let s = c .before .before .before .before .before in
+    let short : length (bytesOf a) ≤ length (now (s .args .out)) = rw (answered c a e) (line-fits .inside (chartAt (now (s .args .state))) (s .args .week) (now (s .args .numbers)) (length (now (s .args .out)))) in
+    put-whole (put-by e (c .answer-at .ensures .1)) short .0
+
 chart-at-requires : tie.Need-chart-at-requires
 chart-at-requires c κs = search needs
+
+answer-at-requires : tie.Need-answer-at-requires
+answer-at-requires c κs = search needs
+
+enum-known-refusal : tie.Need-enum-known-refusal
+enum-known-refusal c = search needs
+
+enum-known-values : tie.Need-enum-known-values
+enum-known-values c = search needs
+
+set-in-requires : tie.Need-set-in-requires
+set-in-requires c κs = search needs
+
+put-next-requires : tie.Need-put-next-requires
+put-next-requires c κs =
+    let r = ready _ _ _ _ _ _ (answered (c .before .before .before .before .before .before .before) _ (c .before .before .before .values .given .1)) in
+    ((r .full, r .held), (r .time, rw (c .set-in .ensures) (r .fits)))
 
 same-length : tie.Need-same-length
 same-length c = search needs
 
+same-length-2 : tie.Need-same-length-2
+same-length-2 c = search needs
+
 returns : tie.Need-returns
 returns c =
-    let s = c .before .before .before .before .before in
-    let old = now (s .args .out) in
-    let r = c .before .before .chart-at .ensures in
-    let all : length old - 0 ≡ length old = omega arith in
-    let is = r .0 ∙ ap (resultOf (s .args .chart) (s .args .week) (now (s .args .numbers))) all in
-    let short : length (bytesOf (c .before .before .chart-at .result .answer)) ≤ length old = rw is (line-fits .inside (s .args .chart) (s .args .week) (now (s .args .numbers)) (length old)) in
-    call-is (s .args .chart) (s .args .week) (now (s .args .numbers)) old _ _ is (put-whole (r .1) short .0)
+    let told = c .before .refusal .given .1 in
+    call-in _ _ _ _ _ _ _ (answered (c .before .before .before .before .before) _ told) refl (bytes (c .before .before .before .before .before) _ told)
+
+same-length-3 : tie.Need-same-length-3
+same-length-3 c = search needs
+
+same-length-4 : tie.Need-same-length-4
+same-length-4 c = search needs
+
+returns-2 : tie.Need-returns-2
+returns-2 c =
+    let s = c .before .before .before .before .before .before .before .before .before .before .before .before .before .before in
+    let told = c .before .before .before .before .before .values .given .1 in
+    let is = answered (c .before .before .before .before .before .before .before .before .before) _ told in
+    let set = c .before .before .set-in .ensures ∙ ready _ _ _ _ _ _ is .set in
+    call-in _ _ _ _ _ _ _ is (c .before .put-next .ensures ∙ ap (nextPlaces (now (s .args .state)) (s .args .week)) set) (bytes (c .before .before .before .before .before .before .before .before .before) _ told)
 
 pub chart-set-spec : {M : Type 1} → statement M
-chart-set-spec = tie.close (tie.spec chart-at-requires same-length returns)
+chart-set-spec =
+    tie.close
+    (tie.spec
+    chart-at-requires
+    answer-at-requires
+    enum-known-refusal
+    enum-known-values
+    set-in-requires
+    put-next-requires
+    same-length
+    same-length-2
+    returns
+    same-length-3
+    same-length-4
+    returns-2)

@@ -1,23 +1,29 @@
--- `chart::open` meets its contract.
-use Rattle.chart.specs.Openings.{opening, openOf}
 use borrow.Author.Tests.{lt-ltb, le-ltb}
+use Rattle.chart_refusals.specs.declared.Refusal.the-variants.{UnknownRow}
+use Rattle.chart.specs.Openings.{opening, openOf}
+use Rattle.chart.specs.InPlace.{openIn}
+use Rattle.chart.specs.declared.OpenAnswer.the-variants.{Opened, Refused}
 use borrow.Author.Needs.{needs}
 use Rattle.chart.proofs.open.Statement.{statement}
 use Rattle.chart.proofs.open.Tie as tie
 
-fresh-chart-requires : tie.Need-fresh-chart-requires
-fresh-chart-requires c κs = search needs
+cast-put-fresh : tie.Need-cast-put-fresh
+cast-put-fresh c = search needs
+
+put-fresh-requires : tie.Need-put-fresh-requires
+put-fresh-requires c κs = search needs
 
 returns : tie.Need-returns
-unfolding openOf opening
-returns c = simp (lt-ltb _ _ (c .before .if1 .taken), c .fresh-chart .ensures)
+unfolding openIn openOf opening
+returns c = rw (lt-ltb _ _ (c .before .before .if1 .taken)) (λ i. record { answer = Opened; places = c .put-fresh .ensures i })
 
-fresh-chart-requires-2 : tie.Need-fresh-chart-requires-2
-fresh-chart-requires-2 c κs = search needs
+put-fresh-requires-2 : tie.Need-put-fresh-requires-2
+put-fresh-requires-2 c κs = search needs
 
 returns-2 : tie.Need-returns-2
-unfolding openOf opening
-returns-2 c = simp (le-ltb _ _ (c .before .if1 .left), c .fresh-chart2 .ensures)
+unfolding openIn openOf opening
+returns-2 c = rw (le-ltb _ _ (c .before .before .if1 .left)) (λ i. record { answer = Refused UnknownRow; places = c .put-fresh2 .ensures i })
 
 pub open-spec : {M : Type 1} → statement M
-open-spec = tie.close (tie.spec fresh-chart-requires returns fresh-chart-requires-2 returns-2)
+open-spec =
+    tie.close (tie.spec cast-put-fresh put-fresh-requires returns put-fresh-requires-2 returns-2)

@@ -1,5 +1,5 @@
 -- `chart_file::write_sets` meets its contract.
-use mathlib.Core.Path.{_≡_, refl, sym, ap, _∙_}
+use mathlib.Core.Path.{_≡_, refl, sym, _∙_}
 use native.Mathlib.Omega.{arith}
 use borrow.Author.Needs.{needs}
 use mathlib.Core.List.{List}
@@ -9,8 +9,6 @@ use denote.Ref.{now}
 use Rattle.chart_lines.specs.Line.{lineAt}
 use Rattle.chart_lines.specs.declared.LineRead.the-variants.{Values}
 use Rattle.chart_lines.proofs.Forward.{line-forward}
-use Rattle.chart.specs.Openings.{opening, openOf}
-use Rattle.chart.specs.declared.Opening.{Opening}
 use Rattle.chart_gather.specs.Gathering.{seen}
 use Rattle.chart_file.proofs.Gathering.{Left, left-start, left-bad, left-fine, left-room, left-step, left-last, left-done}
 use Rattle.chart_ruling.proofs.Rulings.{fine-sample}
@@ -31,7 +29,7 @@ abbrev at-loop : Read → tie.At-loop Inv-loop μ-loop
 at-loop c = c .before .before .before .before .before
 
 abbrev text : Read → List ℕ
-text c = now (at-loop c .before .before .before .before .before .args .text)
+text c = now (at-loop c .before .before .before .before .args .text)
 
 read : (c : Read) → lineAt (text c) (at-loop c .loop .at) ≡ Values (c .before .v .given .0 .0) (c .before .v .given .0 .1 .0)
 read c = sym (c .before .before .before .read-line .ensures) ∙ c .before .v .given .1
@@ -42,12 +40,12 @@ inside c = c .before .before .before .before .loop-test .taken
 forward : (c : Read) → at-loop c .loop .at < c .before .v .given .0 .1 .0
 forward c = line-forward _ _ _ _ (read c)
 
-open-requires : tie.Need-open-requires Inv-loop μ-loop
-open-requires c κs = search needs
+fresh-chart-requires : tie.Need-fresh-chart-requires Inv-loop μ-loop
+fresh-chart-requires c κs = search needs
 
 loop-holds : tie.Need-loop-holds Inv-loop μ-loop
-unfolding openOf seen opening
-loop-holds c = left-start _ _ _ _ (ap (λ (o : Opening). o .chart) (c .before .«open» .ensures)) refl refl refl refl (c .before .before .before .before .pre .0) (c .before .before .before .before .pre .1)
+unfolding seen
+loop-holds c = left-start _ _ _ _ (c .fresh-chart .ensures) refl refl refl refl (c .before .before .before .pre .0) (c .before .before .before .pre .1)
 
 read-line-requires : tie.Need-read-line-requires Inv-loop μ-loop
 read-line-requires c κs = search needs
@@ -93,7 +91,7 @@ write-sets-spec =
     (tie.spec
     Inv-loop
     μ-loop
-    open-requires
+    fresh-chart-requires
     loop-holds
     read-line-requires
     enum-known-v

@@ -2,6 +2,7 @@
 use mathlib.Core.Path.{sym, _∙_}
 use Prim.Native.Nat.{ℕ}
 use lib.ListN.{length-replicate}
+use borrow.Author.Needs.{needs}
 use Rattle.chart_program.proofs.main.Statement.{statement}
 use Rattle.chart_program.proofs.main.Tie as tie
 
@@ -29,8 +30,17 @@ slice-aggregate-print-front c = sym (c .before .before .print-text .kept .1 .0 �
 print-front-requires : tie.Need-print-front-requires
 print-front-requires c κs = tt
 
+slice-aggregate-write-all : tie.Need-slice-aggregate-write-all
+slice-aggregate-write-all c = search needs
+
+write-all-requires : tie.Need-write-all-requires
+write-all-requires c κs = tt
+
 returns : tie.Need-returns
 returns c = tt
+
+returns-2 : tie.Need-returns-2
+returns-2 c = tt
 
 pub main-spec : {M : Type 1} → statement M
 main-spec =
@@ -44,4 +54,7 @@ main-spec =
     print-text-requires
     slice-aggregate-print-front
     print-front-requires
-    returns)
+    slice-aggregate-write-all
+    write-all-requires
+    returns
+    returns-2)

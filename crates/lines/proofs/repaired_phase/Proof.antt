@@ -1,26 +1,23 @@
-use mathlib.Core.Path.{sym, ap}
+use native.Mathlib.Omega.{arith}
+use borrow.Author.Tests.{lt-ltb, le-ltb}
+use Rattle.rules.specs.Places.{lineIn}
 use borrow.Author.Needs.{needs}
-use Rattle.rules.specs.Held.{repairedPhase}
 use Rattle.lines.proofs.repaired_phase.Statement.{statement}
 use Rattle.lines.proofs.repaired_phase.Tie as tie
 
-enum-told : tie.Need-enum-told
-enum-told c = search needs
+natural-at-requires : tie.Need-natural-at-requires
+natural-at-requires c κs = search needs
 
-enum-told-2 : tie.Need-enum-told-2
-enum-told-2 c = search needs
-
-enum-told-3 : tie.Need-enum-told-3
-enum-told-3 c = search needs
+number-at-requires : tie.Need-number-at-requires
+number-at-requires c κs = search needs
 
 returns : tie.Need-returns
-returns c = sym (ap repairedPhase (c .enum-told .given .1))
+unfolding lineIn
+returns c = let n = c .before .natural-at .ensures in let h = c .if1 .taken in simp (lt-ltb (lineIn (c .before .before .args .part .now) .phase) 2 (omega arith))
 
 returns-2 : tie.Need-returns-2
-returns-2 c = sym (ap repairedPhase (c .enum-told2 .given .1))
-
-returns-3 : tie.Need-returns-3
-returns-3 c = sym (ap repairedPhase (c .enum-told3 .given .1))
+unfolding lineIn
+returns-2 c = let n = c .before .before .natural-at .ensures in let h = c .before .if1 .left in simp (le-ltb (lineIn (c .before .before .before .args .part .now) .phase) 2 (omega arith), c .number-at .ensures)
 
 pub repaired-phase-spec : {M : Type 1} → statement M
-repaired-phase-spec = tie.close (tie.spec enum-told enum-told-2 enum-told-3 returns returns-2 returns-3)
+repaired-phase-spec = tie.close (tie.spec natural-at-requires number-at-requires returns returns-2)

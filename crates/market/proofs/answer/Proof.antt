@@ -1,75 +1,112 @@
-use mathlib.Core.Path.{_≡_, sym, _∙_, ap, subst⁻¹}
+use mathlib.Core.Path.{_≡_, sym, _∙_, ap, ap₂, subst⁻¹}
 use mathlib.Core.Bool.{true, false}
-use Prim.Native.Nat.{_<_}
+use Prim.Native.Nat.{ℕ, _<_}
 use native.Mathlib.Omega.{arith}
+use lib.ListN.{length}
 use borrow.Author.Tests.{not-true, not-false}
 use Rattle.rules.specs.Rows.{lineCount}
-use Rattle.rules.specs.Held.{lineValues}
+use Rattle.rules.specs.Held.{Station, lineValues}
 use Rattle.rules.specs.Judging.{dayCheck}
 use Rattle.rules.specs.Soundness.{sound}
+use Rattle.rules.specs.Places.{stationIn}
 use Rattle.rules.proofs.RowFacts.{row-facts}
+use Rattle.rules.proofs.InPlace.{all-places}
 use Rattle.rules.specs.declared.Line.{Line}
 use Rattle.lines.specs.Ranges.{LineFits}
 use Rattle.soundness.proofs.FitsLaws.{line-fits}
 use Rattle.market.specs.Answers.{testedOf}
 use Rattle.market.proofs.AnswerLaws.{answer-unsound, answer-day, answer-line, answer-tested}
+use borrow.Author.Needs.{needs}
 use Rattle.market.proofs.answer.Statement.{statement}
 use Rattle.market.proofs.answer.Tie as tie
 
-right : (c : tie.Else1) → sound (c .before .before .args .s) ≡ true
+abbrev station : tie.Start → Station
+station s = stationIn (s .args .state .now)
+
+right : (c : tie.Else1) → sound (station (c .before .before)) ≡ true
 right c = sym (c .before .is-sound .ensures) ∙ not-false _ (c .if1 .left)
 
-good : (c : tie.Else2) → dayCheck (c .before .before .before .before .args .s .day) (c .before .before .before .before .args .day) .applies ≡ false
-good c = sym (c .before .is-bad-day .ensures) ∙ c .if2 .left
+full : (c : tie.Else1) → length (c .before .before .args .state .now) ≡ 47
+full c = all-places (c .before .before .args .state .now) (right c)
 
-here : (c : tie.Else3) → c .before .before .before .before .before .before .args .line < lineCount (c .before .before .before .before .before .before .args .s .row)
-here c = let few = c .if3 .left in let lines = c .before .line-count .ensures in omega arith
+bad-is : (c : tie.After-is-bad-day) → let s = c .before .before .before .before in c .is-bad-day .result ≡ dayCheck (station s .day) (s .args .day) .applies
+bad-is c = let s = c .before .before .before .before in c .is-bad-day .ensures ∙ ap (λ (d : ℕ). dayCheck d (s .args .day) .applies) (c .before .day-of .ensures)
 
+good : (c : tie.Else2) → let s = c .before .before .before .before .before in dayCheck (station s .day) (s .args .day) .applies ≡ false
+good c = sym (bad-is (c .before)) ∙ c .if2 .left
+
+lines-are : (c : tie.After-line-count) → let s = c .before .before .before .before .before .before .before in c .line-count .result ≡ lineCount (station s .row)
+lines-are c = c .line-count .ensures ∙ ap lineCount (c .before .row-of .ensures)
+
+here : (c : tie.Else3) → let s = c .before .before .before .before .before .before .before .before in s .args .line < lineCount (station s .row)
+here c = let few = c .if3 .left in let lines = lines-are (c .before) in omega arith
+
+-- src/lib.rt:64:9
 is-sound-requires : tie.Need-is-sound-requires
-is-sound-requires c κs = tt
+is-sound-requires c κs = search needs
 
+-- src/lib.rt:65:9
 returns : tie.Need-returns
 returns c =
-    let s = c .before .before .args in
-    answer-unsound (s .s) (s .day) (s .line) (s .scan) (s .basis) (sym (c .before .is-sound .ensures) ∙ not-true _ (c .if1 .taken))
+    let s = c .before .before in
+    answer-unsound (station s) (s .args .day) (s .args .line) (s .args .scan) (s .args .basis) (sym (c .before .is-sound .ensures) ∙ not-true _ (c .if1 .taken))
 
+-- src/lib.rt:67:30
+day-of-requires : tie.Need-day-of-requires
+day-of-requires c κs = full c
+
+-- src/lib.rt:67:8
 is-bad-day-requires : tie.Need-is-bad-day-requires
-is-bad-day-requires c κs = tt
+is-bad-day-requires c κs = search needs
 
+-- src/lib.rt:68:9
 returns-2 : tie.Need-returns-2
 returns-2 c =
-    let s = c .before .before .before .before .args in
-    answer-day (s .s) (s .day) (s .line) (s .scan) (s .basis) (right (c .before .before)) (sym (c .before .is-bad-day .ensures) ∙ c .if2 .taken)
+    let s = c .before .before .before .before .before in
+    answer-day (station s) (s .args .day) (s .args .line) (s .args .scan) (s .args .basis) (right (c .before .before .before)) (sym (bad-is (c .before)) ∙ c .if2 .taken)
 
+-- src/lib.rt:70:9
+row-of-requires : tie.Need-row-of-requires
+row-of-requires c κs = full (c .before .before .before)
+
+-- src/lib.rt:71:8
 line-count-requires : tie.Need-line-count-requires
-line-count-requires c κs = tt
+line-count-requires c κs = search needs
 
+-- src/lib.rt:72:9
 returns-3 : tie.Need-returns-3
 returns-3 c =
-    let s = c .before .before .before .before .before .before .args in
+    let e = c .before .before .before in
+    let s = e .before .before .before .before .before in
     let few = c .if3 .taken in
-    let lines = c .before .line-count .ensures in
-    answer-line (s .s) (s .day) (s .line) (s .scan) (s .basis) (right (c .before .before .before .before)) (good (c .before .before)) (omega arith)
+    let lines = lines-are (c .before) in
+    answer-line (station s) (s .args .day) (s .args .line) (s .args .scan) (s .args .basis) (right (e .before .before .before)) (good e) (omega arith)
 
-line-at-requires : tie.Need-line-at-requires
-line-at-requires c κs =
-    let h = here (c .before) in
-    let most = row-facts (c .before .before .before .before .before .before .before .args .s .row) .threeLines in
-    omega arith
+-- src/lib.rt:74:9
+line-of-requires : tie.Need-line-of-requires
+line-of-requires c κs =
+    let h = here c in
+    let e = c .before .before .before .before .before .before in
+    let most = row-facts (station (e .before .before) .row) .threeLines in
+    (full e, omega arith)
 
+-- src/lib.rt:75:5
 judge-scan-requires : tie.Need-judge-scan-requires
 judge-scan-requires c κs =
-    let e = c .before .before in
-    let s = e .before .before .before .before .before .before .args in
-    subst⁻¹ LineFits (c .line-at .ensures) (line-fits (s .s) (s .line) (right (e .before .before .before .before)) (here e))
+    let f = c .before in
+    let e = f .before .before .before in
+    let s = e .before .before .before .before .before in
+    subst⁻¹ LineFits (c .line-of .ensures) (line-fits (station s) (s .args .line) (right (e .before .before .before)) (here f))
 
+-- src/lib.rt:61:1
 returns-4 : tie.Need-returns-4
 returns-4 c =
-    let e = c .before .before .before in
-    let s = e .before .before .before .before .before .before .args in
+    let f = c .before .before in
+    let e = f .before .before .before in
+    let s = e .before .before .before .before .before in
     c .judge-scan .ensures
-    ∙ ap (λ (l : Line). testedOf (s .s .row) (lineValues l) (s .day) (s .line) (s .scan) (s .basis)) (c .before .line-at .ensures)
-    ∙ answer-tested (s .s) (s .day) (s .line) (s .scan) (s .basis) (right (e .before .before .before .before)) (good (e .before .before)) (here e)
+    ∙ ap₂ (λ (row : ℕ) (l : Line). testedOf row (lineValues l) (s .args .day) (s .args .line) (s .args .scan) (s .args .basis)) (f .before .before .row-of .ensures) (c .before .line-of .ensures)
+    ∙ answer-tested (station s) (s .args .day) (s .args .line) (s .args .scan) (s .args .basis) (right (e .before .before .before)) (good e) (here f)
 
 pub answer-spec : {M : Type 1} → statement M
 answer-spec =
@@ -77,10 +114,12 @@ answer-spec =
     (tie.spec
     is-sound-requires
     returns
+    day-of-requires
     is-bad-day-requires
     returns-2
+    row-of-requires
     line-count-requires
     returns-3
-    line-at-requires
+    line-of-requires
     judge-scan-requires
     returns-4)

@@ -1,19 +1,67 @@
-use mathlib.Core.Path.{_∙_, ap}
-use Rattle.market.specs.Answers.{finished}
-use Rattle.market.proofs.AnswerLaws.{finish-is}
+use mathlib.Core.Path.{sym, _∙_}
+use Rattle.rules.specs.Places.{stationIn}
+use Rattle.rules.specs.declared.MarketAnswer.the-variants.{Certified, Refused}
+use Rattle.rules.proofs.InPlace.{all-places}
+use Rattle.market.proofs.AnswerLaws.{in-order, left-by}
+use borrow.Author.Needs.{needs}
 use Rattle.market.proofs.market.Statement.{statement}
 use Rattle.market.proofs.market.Tie as tie
 
+-- src/lib.rt:88:9
 answer-requires : tie.Need-answer-requires
-answer-requires c κs = tt
+answer-requires c κs = search needs
 
-finish-requires : tie.Need-finish-requires
-finish-requires c κs = tt
+-- src/lib.rt:90:33
+enum-known-given : tie.Need-enum-known-given
+enum-known-given c = search needs
 
+-- src/lib.rt:91:13
+put-day-requires : tie.Need-put-day-requires
+put-day-requires c κs =
+    let k = c .before .before in
+    let a = k .before .before in
+    let s = a .before .before .args in
+    let o = in-order (stationIn (s .state .now)) (s .day) (s .line) (s .scan) (s .basis) _ (sym (k .given .given .1) ∙ a .answer .ensures) in
+    (all-places (s .state .now) (o .0), o .1)
+
+-- src/lib.rt:94:31
+enum-known-given-2 : tie.Need-enum-known-given-2
+enum-known-given-2 c = search needs
+
+-- src/lib.rt:79:1
+same-length : tie.Need-same-length
+same-length c = search needs
+
+-- src/lib.rt:79:1
 returns : tie.Need-returns
 returns c =
-    let s = c .before .before .args in
-    c .finish .ensures ∙ ap (finished (s .s) (s .day)) (c .before .answer .ensures) ∙ finish-is (s .s) (s .day) (s .line) (s .scan) (s .basis)
+    let k = c .before .before .before .before in
+    let a = k .before .before in
+    let s = a .before .before .args in
+    (λ i. record { answer = Certified (k .given .given .0 .0); places = c .before .put-day .ensures i })
+    ∙ left-by (s .state .now) (s .day) (s .line) (s .scan) (s .basis) (Certified (k .given .given .0 .0)) (sym (k .given .given .1) ∙ a .answer .ensures)
+
+-- src/lib.rt:79:1
+same-length-2 : tie.Need-same-length-2
+same-length-2 c = search needs
+
+-- src/lib.rt:79:1
+returns-2 : tie.Need-returns-2
+returns-2 c =
+    let k = c .before in
+    let a = k .before .before in
+    let s = a .before .before .args in
+    left-by (s .state .now) (s .day) (s .line) (s .scan) (s .basis) (Refused (k .given2 .given .0 .0)) (sym (k .given2 .given .1) ∙ a .answer .ensures)
 
 pub market-spec : {M : Type 1} → statement M
-market-spec = tie.close (tie.spec answer-requires finish-requires returns)
+market-spec =
+    tie.close
+    (tie.spec
+    answer-requires
+    enum-known-given
+    put-day-requires
+    enum-known-given-2
+    same-length
+    returns
+    same-length-2
+    returns-2)

@@ -1,7 +1,5 @@
 use mathlib.Core.Path.{sym, ap}
-use lib.IntN.{pos}
 use Rattle.rules.specs.Refusals.{numberOf}
-use Rattle.rules.specs.declared.Refusal.{Refusal}
 use borrow.Author.Needs.{needs}
 use Rattle.refusals.proofs.number.Statement.{statement}
 use Rattle.refusals.proofs.number.Tie as tie
@@ -52,49 +50,49 @@ enum-told-15 : tie.Need-enum-told-15
 enum-told-15 c = search needs
 
 returns : tie.Need-returns
-returns c = sym (ap (λ (r : Refusal). pos (numberOf r)) (c .enum-told .given .1))
+returns c = sym (ap numberOf (c .enum-told .given .1))
 
 returns-2 : tie.Need-returns-2
-returns-2 c = sym (ap (λ (r : Refusal). pos (numberOf r)) (c .enum-told2 .given .1))
+returns-2 c = sym (ap numberOf (c .enum-told2 .given .1))
 
 returns-3 : tie.Need-returns-3
-returns-3 c = sym (ap (λ (r : Refusal). pos (numberOf r)) (c .enum-told3 .given .1))
+returns-3 c = sym (ap numberOf (c .enum-told3 .given .1))
 
 returns-4 : tie.Need-returns-4
-returns-4 c = sym (ap (λ (r : Refusal). pos (numberOf r)) (c .enum-told4 .given .1))
+returns-4 c = sym (ap numberOf (c .enum-told4 .given .1))
 
 returns-5 : tie.Need-returns-5
-returns-5 c = sym (ap (λ (r : Refusal). pos (numberOf r)) (c .enum-told5 .given .1))
+returns-5 c = sym (ap numberOf (c .enum-told5 .given .1))
 
 returns-6 : tie.Need-returns-6
-returns-6 c = sym (ap (λ (r : Refusal). pos (numberOf r)) (c .enum-told6 .given .1))
+returns-6 c = sym (ap numberOf (c .enum-told6 .given .1))
 
 returns-7 : tie.Need-returns-7
-returns-7 c = sym (ap (λ (r : Refusal). pos (numberOf r)) (c .enum-told7 .given .1))
+returns-7 c = sym (ap numberOf (c .enum-told7 .given .1))
 
 returns-8 : tie.Need-returns-8
-returns-8 c = sym (ap (λ (r : Refusal). pos (numberOf r)) (c .enum-told8 .given .1))
+returns-8 c = sym (ap numberOf (c .enum-told8 .given .1))
 
 returns-9 : tie.Need-returns-9
-returns-9 c = sym (ap (λ (r : Refusal). pos (numberOf r)) (c .enum-told9 .given .1))
+returns-9 c = sym (ap numberOf (c .enum-told9 .given .1))
 
 returns-10 : tie.Need-returns-10
-returns-10 c = sym (ap (λ (r : Refusal). pos (numberOf r)) (c .enum-told10 .given .1))
+returns-10 c = sym (ap numberOf (c .enum-told10 .given .1))
 
 returns-11 : tie.Need-returns-11
-returns-11 c = sym (ap (λ (r : Refusal). pos (numberOf r)) (c .enum-told11 .given .1))
+returns-11 c = sym (ap numberOf (c .enum-told11 .given .1))
 
 returns-12 : tie.Need-returns-12
-returns-12 c = sym (ap (λ (r : Refusal). pos (numberOf r)) (c .enum-told12 .given .1))
+returns-12 c = sym (ap numberOf (c .enum-told12 .given .1))
 
 returns-13 : tie.Need-returns-13
-returns-13 c = sym (ap (λ (r : Refusal). pos (numberOf r)) (c .enum-told13 .given .1))
+returns-13 c = sym (ap numberOf (c .enum-told13 .given .1))
 
 returns-14 : tie.Need-returns-14
-returns-14 c = sym (ap (λ (r : Refusal). pos (numberOf r)) (c .enum-told14 .given .1))
+returns-14 c = sym (ap numberOf (c .enum-told14 .given .1))
 
 returns-15 : tie.Need-returns-15
-returns-15 c = sym (ap (λ (r : Refusal). pos (numberOf r)) (c .enum-told15 .given .1))
+returns-15 c = sym (ap numberOf (c .enum-told15 .given .1))
 
 pub number-spec : {M : Type 1} → statement M
 number-spec =

@@ -1,54 +1,89 @@
-use mathlib.Core.Path.{sym, _∙_}
+use mathlib.Core.Path.{_≡_, sym, _∙_, ap}
+use mathlib.Core.Bool.{true}
 use native.Mathlib.Omega.{arith}
-use lib.ListN.{take}
-use borrow.Author.Tests.{not-true, not-false}
+use lib.ListN.{length, take}
+use borrow.Author.Tests.{not-true, not-false, ne-eqb}
 use Rattle.whole.specs.Lists.{all}
+use Rattle.rules.specs.Rows.{rowExists, samples, lineCount}
 use Rattle.rules.specs.Soundness.{soundLine}
+use Rattle.rules.specs.Places.{rowIn, stationIn}
 use Rattle.rules.proofs.RowFacts.{row-facts}
 use Rattle.soundness.proofs.SoundLaws.{rowless, dayless, by-lines}
+use borrow.Author.Needs.{needs}
 use Rattle.soundness.proofs.is_sound.Statement.{statement}
 use Rattle.soundness.proofs.is_sound.Tie as tie
 
-row-exists-requires : tie.Need-row-exists-requires
-row-exists-requires c κs = tt
+row-is : (c : tie.After-row-exists) → c .row-exists .result ≡ rowExists (stationIn (c .before .before .before .args .state .now) .row)
+row-is c = c .row-exists .ensures ∙ ap rowExists (c .before .row-of .ensures)
+
+right : (e : tie.Else2) → rowExists (stationIn (e .before .before .before .before .args .state .now) .row) ≡ true
+right e = sym (row-is (e .before)) ∙ not-false _ (e .if2 .left)
 
 returns : tie.Need-returns
-returns c = rowless (c .before .before .args .s) (sym (c .before .row-exists .ensures) ∙ not-true _ (c .if1 .taken))
+unfolding stationIn rowIn
+returns c =
+    let w = c .before .args .state .now in
+    rowless (stationIn w) (simp (ne-eqb (length w) 47 (c .if1 .taken)))
+
+row-of-requires : tie.Need-row-of-requires
+row-of-requires c κs = search needs
+
+cast-row-exists : tie.Need-cast-row-exists
+cast-row-exists c = search needs
+
+row-exists-requires : tie.Need-row-exists-requires
+row-exists-requires c κs = search needs
 
 returns-2 : tie.Need-returns-2
-returns-2 c =
-    let e = c .before .before in
-    dayless (e .before .before .args .s) (sym (e .before .row-exists .ensures) ∙ not-false _ (e .if1 .left)) (c .if2 .taken)
+returns-2 c = rowless (stationIn (c .before .before .before .before .args .state .now)) (sym (row-is (c .before)) ∙ not-true _ (c .if2 .taken))
 
-sample-count-requires : tie.Need-sample-count-requires
-sample-count-requires c κs = tt
-
-line-count-requires : tie.Need-line-count-requires
-line-count-requires c κs = tt
-
-sound-lines-requires : tie.Need-sound-lines-requires
-sound-lines-requires c κs =
-    let r = row-facts (c .before .before .before .before .before .before .before .args .s .row) in
-    let n = c .before .sample-count .ensures in
-    let m = c .line-count .ensures in
-    (omega (arith, r .sixSamples), omega (arith, r .threeLines))
+day-of-requires : tie.Need-day-of-requires
+day-of-requires c κs = search needs
 
 returns-3 : tie.Need-returns-3
 returns-3 c =
-    let e = c .before .before .before .before .before .before in
-    let s = e .before .before .args .s in
+    let e = c .before .before in
+    let day = c .before .day-of .ensures in
+    let late = c .if3 .taken in
+    dayless (stationIn (e .before .before .before .before .args .state .now)) (right e) (omega arith)
+
+sample-count-requires : tie.Need-sample-count-requires
+sample-count-requires c κs = search needs
+
+line-count-requires : tie.Need-line-count-requires
+line-count-requires c κs = search needs
+
+sound-lines-requires : tie.Need-sound-lines-requires
+sound-lines-requires c κs =
+    let r = row-facts (c .before .before .before .before .before .before .row-of .result) in
+    let n = c .before .sample-count .ensures in
+    let m = c .line-count .ensures in
+    ((omega (arith, r .sixSamples), omega (arith, r .threeLines)), c .before .before .before .before .before .before .before .if1 .left)
+
+returns-4 : tie.Need-returns-4
+returns-4 c =
+    let f = c .before .before .before in
+    let e = f .before .before in
+    let s = stationIn (e .before .before .before .before .args .state .now) in
+    let day = f .before .day-of .ensures in
+    let in-time = f .if3 .left in
+    let row = e .before .before .row-of .ensures in
     c .sound-lines .ensures
-    ∙ (λ i. all (soundLine (c .before .before .sample-count .ensures i) (s .day)) (take (c .before .line-count .ensures i) (s .lines)))
-    ∙ by-lines s (sym (e .before .row-exists .ensures) ∙ not-false _ (e .if1 .left)) (c .before .before .before .before .if2 .left)
+    ∙ (λ i. all (soundLine ((c .before .before .sample-count .ensures ∙ ap samples row) i) (day i)) (take ((c .before .line-count .ensures ∙ ap lineCount row) i) (s .lines)))
+    ∙ by-lines s (right e) (omega arith)
 
 pub is-sound-spec : {M : Type 1} → statement M
 is-sound-spec =
     tie.close
     (tie.spec
-    row-exists-requires
     returns
+    row-of-requires
+    cast-row-exists
+    row-exists-requires
     returns-2
+    day-of-requires
+    returns-3
     sample-count-requires
     line-count-requires
     sound-lines-requires
-    returns-3)
+    returns-4)

@@ -25,18 +25,21 @@ returns c =
     let s = c .before .before .args in
     (verdict-shut (s .limits) (s .l) (s .day) (s .set) (c .if1 .taken), omega arith)
 
+cast-valid-count : tie.Need-cast-valid-count
+cast-valid-count c = search needs
+
 valid-count-requires : tie.Need-valid-count-requires
-valid-count-requires c κs = let s = c .before .before .before in (s .pre .1 .0 .room, s .pre .1 .0 .held)
+valid-count-requires c κs = let s = c .before .before .before .before in (s .pre .1 .0 .room, s .pre .1 .0 .held)
 
 first-exceeded-requires : tie.Need-first-exceeded-requires
 first-exceeded-requires c κs =
-    let s = c .before .before .before .before in
+    let s = c .before .before .before .before .before in
     let most = c .valid-count .ensures .1 in
     let room = s .pre .1 .0 .room in
     record {
       limited = s .pre .0;
       sets = s .pre .1 .1;
-      some = some-of _ (c .before .before .if1 .left);
+      some = some-of _ (c .before .before .before .if1 .left);
       few = omega arith;
       held = held-less most (s .pre .1 .0 .held);
     }
@@ -52,7 +55,7 @@ rounded-requires c κs =
 
 adjust-requires : tie.Need-adjust-requires
 adjust-requires c κs =
-    let w = c .before .before .before .before .before .before .before .before .before .before .before .pre .1 .0 .small in
+    let w = c .before .before .before .before .before .before .before .before .before .before .before .before .pre .1 .0 .small in
     (subst (Within 1000 1000) (sym (back-in w tt tt .is)) w, c .rounded .ensures .1)
 
 enum-told : tie.Need-enum-told
@@ -64,9 +67,9 @@ returns-2 c =
     let q = fits k in
     let t = found k in
     let v = k .before .before .before .before in
-    let s = v .before .before .before .before in (
+    let s = v .before .before .before .before .before in (
       c .adjust .ensures .0 ∙ ap₂ adjustBy (back-in (s .pre .1 .0 .small) tt tt .is) (c .before .rounded .ensures .0 ∙ ap (λ (z : ℤ). averageOf z (t .count)) (back-in (q .sets .within) tt tt .is) ∙ average-is t)
-          ∙ verdict-by (s .args .limits) (s .args .l) (s .args .day) (s .args .set) (v .valid-count .result) (v .before .before .if1 .left) (s .pre .1 .0) (v .valid-count .ensures .0) (v .valid-count .ensures .1)
+          ∙ verdict-by (s .args .limits) (s .args .l) (s .args .day) (s .args .set) (v .valid-count .result) (v .before .before .before .if1 .left) (s .pre .1 .0) (v .valid-count .ensures .0) (v .valid-count .ensures .1)
           (sym (k .before .t .given .1) ∙ k .before .before .before .first-exceeded .ensures .0),
       c .adjust .ensures .1,
     )
@@ -74,8 +77,8 @@ returns-2 c =
 returns-3 : tie.Need-returns-3
 returns-3 c =
     let v = c .before .before .before in
-    let s = v .before .before .before .before in (
-      verdict-by (s .args .limits) (s .args .l) (s .args .day) (s .args .set) (v .valid-count .result) (v .before .before .if1 .left) (s .pre .1 .0) (v .valid-count .ensures .0) (v .valid-count .ensures .1)
+    let s = v .before .before .before .before .before in (
+      verdict-by (s .args .limits) (s .args .l) (s .args .day) (s .args .set) (v .valid-count .result) (v .before .before .before .if1 .left) (s .pre .1 .0) (v .valid-count .ensures .0) (v .valid-count .ensures .1)
           (sym (c .enum-told .given .1) ∙ c .before .before .first-exceeded .ensures .0),
       omega arith,
     )
@@ -85,6 +88,7 @@ verdict-on-spec =
     tie.close
     (tie.spec
     returns
+    cast-valid-count
     valid-count-requires
     first-exceeded-requires
     enum-known-t

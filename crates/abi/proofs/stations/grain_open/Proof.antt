@@ -1,0 +1,26 @@
+use mathlib.Core.Path.{ap, _∙_}
+use Rattle.rules.specs.InPlace.{Left}
+use Rattle.rules.specs.declared.OpenAnswer.{OpenAnswer}
+use Rattle.station_answers.specs.StationAnswers.{openGiven, openCall}
+use borrow.Author.Needs.{needs}
+use Rattle.abi.proofs.stations.grain_open.Statement.{statement}
+use Rattle.abi.proofs.stations.grain_open.Tie as tie
+
+-- src/stations.rt:21:29
+open-requires : tie.Need-open-requires
+open-requires c κs = search needs
+
+-- src/stations.rt:21:5
+opened-requires : tie.Need-opened-requires
+opened-requires c κs = search needs
+
+-- src/stations.rt:17:1
+returns : tie.Need-returns
+unfolding openCall
+returns c =
+    let call = c .before .«open» .ensures in
+    let given = c .opened .ensures ∙ ap (λ (x : Left OpenAnswer). openGiven (x .answer)) call in
+    λ i. record { answer = given i; places = call i .places }
+
+pub grain-open-spec : {M : Type 1} → statement M
+grain-open-spec = tie.close (tie.spec open-requires opened-requires returns)

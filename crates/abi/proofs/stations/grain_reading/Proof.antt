@@ -1,0 +1,20 @@
+use mathlib.Core.Path.{ap, _∙_}
+use Rattle.station_answers.specs.StationAnswers.{readingGiven}
+use borrow.Author.Needs.{needs}
+use Rattle.abi.proofs.stations.grain_reading.Statement.{statement}
+use Rattle.abi.proofs.stations.grain_reading.Tie as tie
+
+-- src/stations.rt:14:27
+reading-requires : tie.Need-reading-requires
+reading-requires c κs = search needs
+
+-- src/stations.rt:14:5
+read-requires : tie.Need-read-requires
+read-requires c κs = search needs
+
+-- src/stations.rt:10:1
+returns : tie.Need-returns
+returns c = c .read .ensures ∙ ap readingGiven (c .before .reading .ensures)
+
+pub grain-reading-spec : {M : Type 1} → statement M
+grain-reading-spec = tie.close (tie.spec reading-requires read-requires returns)

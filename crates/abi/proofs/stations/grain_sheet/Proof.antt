@@ -1,0 +1,26 @@
+use mathlib.Core.Path.{ap, _∙_}
+use Rattle.rules.specs.InPlace.{Left}
+use Rattle.rules.specs.declared.SheetAnswer.{SheetAnswer}
+use Rattle.station_answers.specs.StationAnswers.{sheetGiven, sheetCall}
+use borrow.Author.Needs.{needs}
+use Rattle.abi.proofs.stations.grain_sheet.Statement.{statement}
+use Rattle.abi.proofs.stations.grain_sheet.Tie as tie
+
+-- src/stations.rt:33:29
+sheet-requires : tie.Need-sheet-requires
+sheet-requires c κs = search needs
+
+-- src/stations.rt:33:5
+judged-requires : tie.Need-judged-requires
+judged-requires c κs = search needs
+
+-- src/stations.rt:24:1
+returns : tie.Need-returns
+unfolding sheetCall
+returns c =
+    let call = c .before .sheet .ensures in
+    let given = c .judged .ensures ∙ ap (λ (x : Left SheetAnswer). sheetGiven (x .answer)) call in
+    λ i. record { answer = given i; places = call i .places }
+
+pub grain-sheet-spec : {M : Type 1} → statement M
+grain-sheet-spec = tie.close (tie.spec sheet-requires judged-requires returns)

@@ -1,0 +1,41 @@
+-- The calls over a chart in its caller's places: the answer, every place afterwards, and every byte of the buffer.
+use Prim.Native.Nat.{ℕ}
+use mathlib.Core.List.{List}
+use lib.IntN.{ℤ}
+use Rattle.chart_sets.specs.Sets.{setOf}
+use Rattle.chart_places.specs.ChartPlaces.{chartAt, freshPlaces, nextPlaces}
+use Rattle.chart.specs.Openings.{openOf}
+use Rattle.chart.specs.Calls.{chartSetOf}
+use Rattle.chart.specs.declared.OpenAnswer.{OpenAnswer}
+use Rattle.chart.specs.declared.ChartAnswer.{ChartAnswer}
+use Rattle.chart.specs.declared.ChartAnswer.the-variants.{Charted, Refused}
+
+-- ---- opening
+pub record OpenedIn : Type 0 where
+  pub answer : OpenAnswer
+  pub places : List ℤ
+
+-- whatever stood there, the places are those of the fresh chart that is handed back
+unfoldable pub openIn : ℕ → OpenedIn
+openIn row = record { answer = openOf row .answer; places = freshPlaces (openOf row .chart .row) }
+
+-- ---- one set
+pub record ChartedIn : Type 0 where
+  pub answer : ChartAnswer
+  pub places : List ℤ
+  pub buffer : List ℕ
+
+-- an accepted call leaves the next places, a refused one the places as they came
+abbrev pub placesLeft : ChartAnswer → List ℤ → List ℤ → List ℤ
+placesLeft (Charted v length) next words = next
+placesLeft (Refused r) next words = words
+
+-- the call on the chart that is read from the places
+unfoldable pub chartSetIn : List ℤ → ℕ → List ℤ → List ℕ → ChartedIn
+chartSetIn words week numbers buffer =
+    let r = chartSetOf (chartAt words) week numbers buffer in
+    record {
+      answer = r .result .answer;
+      places = placesLeft (r .result .answer) (nextPlaces words week (setOf numbers)) words;
+      buffer = r .buffer;
+    }

@@ -1,0 +1,2 @@
+pub mod ChartPlaces
+pub mod ChartLaws

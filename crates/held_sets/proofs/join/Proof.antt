@@ -1,0 +1,35 @@
+use Rattle.held_sets.proofs.Twelve.{joins}
+use borrow.Author.Needs.{needs}
+use Rattle.held_sets.proofs.join.Statement.{statement}
+use Rattle.held_sets.proofs.join.Tie as tie
+
+shift-requires : tie.Need-shift-requires
+shift-requires c κs = search needs
+
+shift-requires-2 : tie.Need-shift-requires-2
+shift-requires-2 c κs = search needs
+
+shift-requires-3 : tie.Need-shift-requires-3
+shift-requires-3 c κs = search needs
+
+put-set-requires : tie.Need-put-set-requires
+put-set-requires c κs = search needs
+
+same-length : tie.Need-same-length
+same-length c = search needs
+
+returns : tie.Need-returns
+returns c =
+    let s = c .before .before .before .before .before .before .before .before .before .before .before .before in
+    cc (joins (s .args .part .now) (s .pre) (s .args .a .z) (s .args .b .z) (s .args .c .z))
+
+pub join-spec : {M : Type 1} → statement M
+join-spec =
+    tie.close
+    (tie.spec
+    shift-requires
+    shift-requires-2
+    shift-requires-3
+    put-set-requires
+    same-length
+    returns)

@@ -1,0 +1,2 @@
+-- What the contracts of the station's own functions cite, over the definitions of `rules`.
+pub mod Accepted

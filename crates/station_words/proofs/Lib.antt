@@ -1,4 +1,0 @@
-mod Phases
-pub mod Lengths
-pub mod Inverse
-pub mod HandedBack
