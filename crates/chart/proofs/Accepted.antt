@@ -1,5 +1,5 @@
 -- What the answer of an accepted call says of the call.
-use mathlib.Core.Path.{_≡_, refl, sym, ap, subst}
+use mathlib.Core.Path.{_≡_, sym, ap, subst}
 use mathlib.Core.List.{List}
 use Prim.Native.Nat.{ℕ, _+_}
 use native.Mathlib.Omega.{arith}
@@ -7,21 +7,18 @@ use lib.IntN.{ℤ}
 use lib.ListN.{length}
 use Rattle.decimal.specs.Put.{Put}
 use Rattle.chart_sets.specs.Sets.{setOf}
-use Rattle.chart_state.specs.Charts.{nextChart}
 use Rattle.chart_state.specs.declared.Chart.{Chart}
 use Rattle.chart_line.specs.Lines.{valuesOf, setIn}
 use Rattle.chart_line.specs.declared.Values.{Values}
 use Rattle.chart_refusals.proofs.Fine.{FineCall}
-use Rattle.chart_refusals.specs.declared.Refusal.{Refusal}
 use Rattle.chart.specs.Calls.{accepted, resultOf, bytesOf}
 use Rattle.chart.specs.declared.ChartAnswer.{ChartAnswer}
-use Rattle.chart.specs.declared.ChartAnswer.the-variants.{Charted, Refused}
+use Rattle.chart.specs.declared.ChartAnswer.the-variants.{Charted}
 use Rattle.chart.proofs.Soundness.{call-cases}
 
 pub record AcceptedCall (c : Chart) (week : ℕ) (numbers : List ℤ) (room : ℕ) (v : Values) : Type 0 where
   pub fine : FineCall c week numbers room
   pub set : setIn v ≡ setOf numbers
-  pub chart : resultOf c week numbers room .chart ≡ nextChart c week (setOf numbers)
 
 module _ (c : Chart) (week : ℕ) (numbers : List ℤ) (room : ℕ) where
   set-in : (v : Values) → valuesOf c week (setOf numbers) ≡ v → setIn v ≡ setOf numbers
@@ -31,17 +28,11 @@ module _ (c : Chart) (week : ℕ) (numbers : List ℤ) (room : ℕ) where
   pub accepted-call : (v : Values) (k : ℕ) → resultOf c week numbers room .answer ≡ Charted v k → AcceptedCall c week numbers room v
   unfolding accepted
   accepted-call v k e =
-      let g = call-cases c week numbers room (λ x. x .answer ≡ Charted v k → FineCall c week numbers room × ((setIn v ≡ setOf numbers) × (x .chart ≡ nextChart c week (setOf numbers))))
+      let g = call-cases c week numbers room (λ x. x .answer ≡ Charted v k → FineCall c week numbers room × (setIn v ≡ setOf numbers))
       (λ r e. let z : _≡_ {A = ℕ} 0 1 = cc in absurd (omega arith))
-      (λ f e. let same : valuesOf c week (setOf numbers) ≡ v = cc in (f, (set-in v same, refl))) in
+      (λ f e. let same : valuesOf c week (setOf numbers) ≡ v = cc in (f, set-in v same)) in
       let h = g e in
-      record { fine = h .0; set = h .1 .0; chart = h .1 .1 }
-
-  pub refused-call : (r : Refusal) → resultOf c week numbers room .answer ≡ Refused r → resultOf c week numbers room .chart ≡ c
-  unfolding accepted
-  refused-call r =
-      call-cases c week numbers room (λ x. x .answer ≡ Refused r → x .chart ≡ c) (λ s e. refl)
-      (λ f e. let z : _≡_ {A = ℕ} 0 1 = cc in absurd (omega arith))
+      record { fine = h .0; set = h .1 }
 
 -- what was written by an answer, where the answer is known
 pub put-by : {old new : List ℕ} {at : ℕ} {a b : ChartAnswer} → a ≡ b → Put old at (bytesOf a) new (at + length (bytesOf a)) → Put old at (bytesOf b) new (at + length (bytesOf b))

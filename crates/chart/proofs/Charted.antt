@@ -11,12 +11,11 @@ use Rattle.decimal.specs.Put.{overwritten}
 use Rattle.chart_sets.specs.Sets.{setOf}
 use Rattle.chart_line.specs.Lines.{valuesOf, lineOf}
 use Rattle.chart_refusals.specs.Checks.{refusalOf}
-use Rattle.chart.specs.Calls.{accepted, resultOf, bytesOf, chartSetOf}
+use Rattle.chart.specs.Calls.{ChartResult, accepted, resultOf, bytesOf, chartSetOf}
 use Rattle.chart.specs.Answers.{chartSays}
 use Rattle.chart.specs.Laws.{RefusedUntouched, LineFits}
 use Rattle.chart_state.specs.declared.Chart.{Chart}
 use Rattle.chart_line.specs.declared.Values.{Values}
-use Rattle.chart.specs.declared.ChartResult.{ChartResult}
 use Rattle.chart.specs.declared.ChartAnswer.the-variants.{Charted}
 use Rattle.chart_line.proofs.Lines.{values-small, line-short}
 use Rattle.chart_refusals.proofs.Fine.{FineCall}

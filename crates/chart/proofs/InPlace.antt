@@ -1,5 +1,5 @@
 -- The call over a chart in its caller's places: its contract from what was written, and the chart that the places hold afterwards.
-use mathlib.Core.Path.{_≡_, refl, sym, ap, _∙_}
+use mathlib.Core.Path.{_≡_, refl, sym, _∙_}
 use mathlib.Core.Bool.{cond, not}
 use mathlib.Core.List.{List}
 use mathlib.Core.Option.{some}
@@ -8,7 +8,6 @@ use native.Mathlib.Omega.{arith}
 use lib.IntN.{ℤ}
 use lib.ListN.{length}
 use Rattle.whole.proofs.ListLaws.{by-test}
-use Rattle.decimal.specs.Put.{overwritten}
 use Rattle.chart_sets.specs.Sets.{setOf}
 use Rattle.chart_sets.specs.Soundness.{SetFits}
 use Rattle.chart_bounds.proofs.Bounds.{week-facts}
@@ -16,7 +15,7 @@ use Rattle.chart_rules.specs.Rows.{rowExists}
 use Rattle.chart_state.specs.Charts.{freshChart}
 use Rattle.chart_state.proofs.Soundness.{sound-chart}
 use Rattle.whole.specs.Places.{place, natural}
-use Rattle.chart_places.specs.ChartPlaces.{chartAt, nextPlaces}
+use Rattle.chart_places.specs.ChartPlaces.{chartAt}
 use Rattle.chart_places.proofs.ReadBack.{read-back}
 use Rattle.chart_places.proofs.Fifteen.{fifteen, held-place}
 use Rattle.chart_line.specs.Lines.{setIn}
@@ -25,11 +24,10 @@ use Rattle.chart_refusals.proofs.Fine.{FineCall}
 use Rattle.chart_refusals.specs.declared.Refusal.the-variants.{UnknownRow}
 use Rattle.chart_refusals.specs.declared.Judgement.the-variants as J
 use Rattle.chart.specs.Openings.{opening, openOf}
-use Rattle.chart.specs.Calls.{accepted, resultOf, bytesOf, chartSetOf}
+use Rattle.chart.specs.Calls.{accepted, resultOf, chartSetOf}
 use Rattle.chart.specs.Answers.{chartSays}
-use Rattle.chart.specs.InPlace.{openIn, ChartedIn, placesLeft, chartSetIn}
+use Rattle.chart.specs.InPlace.{openIn, leftBy, chartSetIn}
 use Rattle.chart.specs.Laws.{HeldInPlace}
-use Rattle.chart.specs.declared.ChartAnswer.{ChartAnswer}
 use Rattle.chart.specs.declared.ChartAnswer.the-variants.{Charted}
 use Rattle.chart.proofs.Soundness.{call-cases, fine-set}
 use Rattle.chart.proofs.Accepted.{accepted-call}
@@ -60,30 +58,24 @@ module _ (words : List ℤ) (week : ℕ) (numbers : List ℤ) where
         set = call .set;
       }
 
-  -- the contract, from the answer and what was written
-  pub call-in : (old new : List ℕ) (left : List ℤ) (a : ChartAnswer) → a ≡ resultOf (chartAt words) week numbers (length old) .answer
-      → left ≡ placesLeft a (nextPlaces words week (setOf numbers)) words → new ≡ overwritten (bytesOf a) old
-      → _≡_ {A = ChartedIn} (record { answer = a; places = left; buffer = new }) (chartSetIn words week numbers old)
-  unfolding chartSetIn chartSetOf
-  call-in old new left a is places bytes =
-      let places2 = places ∙ ap (λ (x : ChartAnswer). placesLeft x (nextPlaces words week (setOf numbers)) words) is in
-      let bytes2 = bytes ∙ ap (λ (x : ChartAnswer). overwritten (bytesOf x) old) is in
-      λ i. record { answer = is i; places = places2 i; buffer = bytes2 i }
-
   -- ---- the laws
+
+  -- the places that a call leaves hold the chart that it leaves
+  pub left-holds : (room : ℕ) → chartAt (leftBy (resultOf (chartAt words) week numbers room .answer) words week numbers) ≡ resultOf (chartAt words) week numbers room .chart
+  unfolding accepted
+  left-holds room =
+      call-cases (chartAt words) week numbers room (λ x. chartAt (leftBy (x .answer) words week numbers) ≡ x .chart) (λ r. refl)
+      (λ f. read-back .next words week (setOf numbers) (in-15 room f))
+
   charted : (buffer : List ℕ) → chartAt (chartSetIn words week numbers buffer .places) ≡ resultOf (chartAt words) week numbers (length buffer) .chart
-  unfolding chartSetIn chartSetOf accepted
-  charted buffer =
-      call-cases (chartAt words) week numbers (length buffer)
-      (λ x. chartAt (placesLeft (x .answer) (nextPlaces words week (setOf numbers)) words) ≡ x .chart)
-      (λ r. refl)
-      (λ f. read-back .next words week (setOf numbers) (in-15 (length buffer) f))
+  unfolding chartSetIn chartSetOf
+  charted buffer = left-holds (length buffer)
 
   untouched : (buffer : List ℕ) (n : ℕ) → chartSays (chartSetIn words week numbers buffer .answer) .number ≡ some n → chartSetIn words week numbers buffer .places ≡ words
   unfolding chartSetIn chartSetOf accepted
   untouched buffer =
       call-cases (chartAt words) week numbers (length buffer)
-      (λ x. (n : ℕ) → chartSays (x .answer) .number ≡ some n → placesLeft (x .answer) (nextPlaces words week (setOf numbers)) words ≡ words)
+      (λ x. (n : ℕ) → chartSays (x .answer) .number ≡ some n → leftBy (x .answer) words week numbers ≡ words)
       (λ r n e. refl)
       (λ f n e. let z : _≡_ {A = ℕ} 0 1 = cc in absurd (omega arith))
 

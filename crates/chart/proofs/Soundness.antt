@@ -16,12 +16,10 @@ use Rattle.chart.specs.Openings.{opening, openOf}
 use Rattle.chart_state.specs.Charts.{sound}
 use Rattle.chart.specs.Answers.{openSays}
 use Rattle.chart_refusals.specs.Checks.{refusalOf}
-use Rattle.chart.specs.Calls.{decided, accepted, resultOf}
+use Rattle.chart.specs.Calls.{ChartResult, decided, accepted, resultOf}
 use Rattle.chart.specs.Laws.{StaysSound, OpenedExactly, LowestNumber}
 use Rattle.chart_state.specs.declared.Chart.{Chart}
-use Rattle.chart.specs.declared.OpenAnswer.the-variants as Open
 use Rattle.chart_refusals.specs.declared.Refusal.the-variants.{UnknownRow}
-use Rattle.chart.specs.declared.ChartResult.{ChartResult}
 use Rattle.chart.specs.declared.ChartAnswer.the-variants.{Refused}
 use Rattle.chart_refusals.specs.declared.Refusal.{Refusal}
 use Rattle.chart_refusals.specs.declared.Judgement.{Judgement}

@@ -13,7 +13,11 @@ use Rattle.chart_refusals.specs.declared.Judgement.{Judgement}
 use Rattle.chart_refusals.specs.declared.Judgement.the-variants as J
 use Rattle.chart.specs.declared.ChartAnswer.{ChartAnswer}
 use Rattle.chart.specs.declared.ChartAnswer.the-variants.{Charted, Refused}
-use Rattle.chart.specs.declared.ChartResult.{ChartResult}
+
+-- what a call leaves: the chart, and what it answers
+pub record ChartResult : Type 0 where
+  pub chart : Chart
+  pub answer : ChartAnswer
 
 -- an accepted call: the chart with the set, the line's values and its length
 unfoldable pub accepted : Chart → ℕ → List ℤ → ChartResult

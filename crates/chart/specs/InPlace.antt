@@ -25,10 +25,10 @@ pub record ChartedIn : Type 0 where
   pub places : List ℤ
   pub buffer : List ℕ
 
--- an accepted call leaves the next places, a refused one the places as they came
-abbrev pub placesLeft : ChartAnswer → List ℤ → List ℤ → List ℤ
-placesLeft (Charted v length) next words = next
-placesLeft (Refused r) next words = words
+-- an accepted call leaves the places with the set, a refused one the places as they came
+abbrev pub leftBy : ChartAnswer → List ℤ → ℕ → List ℤ → List ℤ
+leftBy (Charted v length) words week numbers = nextPlaces words week (setOf numbers)
+leftBy (Refused r) words week numbers = words
 
 -- the call on the chart that is read from the places
 unfoldable pub chartSetIn : List ℤ → ℕ → List ℤ → List ℕ → ChartedIn
@@ -36,6 +36,6 @@ chartSetIn words week numbers buffer =
     let r = chartSetOf (chartAt words) week numbers buffer in
     record {
       answer = r .result .answer;
-      places = placesLeft (r .result .answer) (nextPlaces words week (setOf numbers)) words;
+      places = leftBy (r .result .answer) words week numbers;
       buffer = r .buffer;
     }

@@ -8,7 +8,8 @@ ghost use Prim.Native.Nat.{_+_, _-_, _≤_};
 ghost use lib.ListN.{length};
 ghost use Rattle.decimal.specs.Put.{Put};
 ghost use Rattle.chart.specs.Calls.{resultOf, bytesOf};
-ghost use Rattle.chart.specs.InPlace.{openIn, chartSetIn};
+ghost use Rattle.chart_places.specs.ChartPlaces.{chartAt};
+ghost use Rattle.chart.specs.InPlace.{openIn, leftBy, chartSetIn};
 
 pub enum OpenAnswer {
     Opened,
@@ -19,12 +20,6 @@ pub enum OpenAnswer {
 pub enum ChartAnswer {
     Charted(Values, usize),
     Refused(Refusal),
-}
-
-// A charted set in a text: the chart after it, and the answer.
-pub struct ChartResult {
-    pub chart: Chart,
-    pub answer: ChartAnswer,
 }
 
 // ---- opening
@@ -61,38 +56,32 @@ fn answer_at(chart: Chart, week: u32, numbers: &[i32], out: &mut [u8], at: usize
     }
 }
 
-// One set of a text charted, its line written from position at on.
-pub fn chart_at(chart: Chart, week: u32, numbers: &[i32], out: &mut [u8], at: usize) -> ChartResult
+// One set charted in its caller's places, its line written from position at on. A refused call writes nothing.
+pub fn chart_set_at(
+    state: &mut [i32],
+    week: u32,
+    numbers: &[i32],
+    out: &mut [u8],
+    at: usize,
+) -> ChartAnswer
     requires { ⌜ at ≤ length (now out) ⌝ }
-    ensures { λ r. ⌜ r ≡ resultOf chart week (now (numbers .entry)) (length (now (out .entry)) - at) ⌝ }
-    ensures { λ r. ⌜ Put (now (out .entry)) at (bytesOf (r .answer)) (now (out .exit)) (at + length (bytesOf (r .answer))) ⌝ }
-{
-    match answer_at(chart, week, numbers, out, at) {
-        ChartAnswer::Refused(refusal) => ChartResult {
-            chart,
-            answer: ChartAnswer::Refused(refusal),
-        },
-        ChartAnswer::Charted(values, length) => {
-            let next = chart_state::next_chart(chart, week, chart_line::set_in(values));
-            ChartResult {
-                chart: next,
-                answer: ChartAnswer::Charted(values, length),
-            }
-        }
-    }
-}
-
-// One set charted in its caller's places: its output line stands at the buffer's start, and no later byte is touched.
-// A refused call writes nothing.
-pub fn chart_set(state: &mut [i32], week: u32, numbers: &[i32], out: &mut [u8]) -> ChartAnswer
-    ensures { λ r. ⌜ record { answer = r; places = now (state .exit); buffer = now (out .exit) } ≡ chartSetIn (now (state .entry)) week (now (numbers .entry)) (now (out .entry)) ⌝ }
+    ensures { λ r. ⌜ r ≡ resultOf (chartAt (now (state .entry))) week (now (numbers .entry)) (length (now (out .entry)) - at) .answer ⌝ }
+    ensures { λ r. ⌜ now (state .exit) ≡ leftBy r (now (state .entry)) week (now (numbers .entry)) ⌝ }
+    ensures { λ r. ⌜ Put (now (out .entry)) at (bytesOf r) (now (out .exit)) (at + length (bytesOf r)) ⌝ }
 {
     let chart = chart_places::chart_at(state);
-    match answer_at(chart, week, numbers, out, 0) {
+    match answer_at(chart, week, numbers, out, at) {
         ChartAnswer::Refused(refusal) => ChartAnswer::Refused(refusal),
         ChartAnswer::Charted(values, length) => {
             chart_places::put_next(state, week, chart_line::set_in(values));
             ChartAnswer::Charted(values, length)
         }
     }
+}
+
+// The call: its output line stands at the buffer's start, and no later byte is touched.
+pub fn chart_set(state: &mut [i32], week: u32, numbers: &[i32], out: &mut [u8]) -> ChartAnswer
+    ensures { λ r. ⌜ record { answer = r; places = now (state .exit); buffer = now (out .exit) } ≡ chartSetIn (now (state .entry)) week (now (numbers .entry)) (now (out .entry)) ⌝ }
+{
+    chart_set_at(state, week, numbers, out, 0)
 }

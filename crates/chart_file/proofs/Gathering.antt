@@ -16,6 +16,7 @@ use Rattle.chart_lines.specs.declared.ValueLine.{ValueLine}
 use Rattle.chart_lines.specs.declared.LineRead.{LineRead}
 use Rattle.chart_lines.specs.declared.LineRead.the-variants.{Values, Bad}
 use Rattle.chart_state.specs.Charts.{freshChart}
+use Rattle.chart_places.specs.ChartPlaces.{chartAt}
 use Rattle.chart_ruling.specs.Rulings.{FineLine}
 use Rattle.chart_judge.specs.Judging.{linesAt, valueLines, starts, GoodLines}
 use Rattle.chart_gather.specs.Gathering.{Gathered, none, joined, finished, closed, kept, setsOf, seen}
@@ -81,8 +82,8 @@ text-count text g = count-sets (valueLines text) g
 
 -- ---- what is left to be written: written from here, it gives the whole
 pub record Left (text old : List ℕ) (start : ℕ) (out : List ℕ) (p : Progress) (at : ℕ) : Type 0 where
-  pub bytes : sets out (p .end) (chartAll (p .chart) (setsOf (seen (p .set)) (linesAt text at))) ≡ sets old start (textLines text)
-  pub behind : p .end + length (chartAll (p .chart) (setsOf (seen (p .set)) (linesAt text at))) ≡ start + length (textLines text)
+  pub bytes : sets out (p .end) (chartAll (chartAt (p .chart)) (setsOf (seen (p .set)) (linesAt text at))) ≡ sets old start (textLines text)
+  pub behind : p .end + length (chartAll (chartAt (p .chart)) (setsOf (seen (p .set)) (linesAt text at))) ≡ start + length (textLines text)
   pub room : p .end + 40 * length (setsOf (seen (p .set)) (linesAt text at)) ≤ length old
   pub long : length out ≡ length old
   pub good : GoodLines (p .set .week) (p .set .count) (linesAt text at)
@@ -104,17 +105,17 @@ module _ {text old : List ℕ} {start : ℕ} {out : List ℕ} {p : Progress} {at
   pub left-room : p .end + 40 * length (closed (seen (p .set)) v) ≤ length out
   left-room = omega (arith, l .room, l .long, ap length setsAre, length-append (closed (seen (p .set)) v) (setsOf (joined (kept (seen (p .set)) v) v) (linesAt text next)))
 
-  pub left-step : (r : Progress) (new : List ℕ) → Stepped p v r → Put out (p .end) (chartAll (p .chart) (closed (seen (p .set)) v)) new (r .end)
+  pub left-step : (r : Progress) (new : List ℕ) → Stepped p v r → Put out (p .end) (chartAll (chartAt (p .chart)) (closed (seen (p .set)) v)) new (r .end)
       → r .set .count ≤ 5 → Left text old start new r next
   unfolding GoodLines
   left-step r new s put five =
-      let c = p .chart in
+      let c = chartAt (p .chart) in
       let done = closed (seen (p .set)) v in
       let more = setsOf (joined (kept (seen (p .set)) v) v) (linesAt text next) in
       let a = chartAll c done in
       let b = chartAll (chartAfter c done) more in
       let moreIs = ap (λ (g : Gathered). setsOf g (linesAt text next)) (s .set) in
-      let restIs : chartAll (r .chart) (setsOf (seen (r .set)) (linesAt text next)) ≡ b = λ i. chartAll (s .chart i) (moreIs i) in
+      let restIs : chartAll (chartAt (r .chart)) (setsOf (seen (r .set)) (linesAt text next)) ≡ b = λ i. chartAll (s .after i) (moreIs i) in
       let whole : chartAll c (setsOf (seen (p .set)) (linesAt text at)) ≡ a ++ b = ap (chartAll c) setsAre ∙ chart-append c done more in
       record {
         bytes = (λ i. sets (put .written i) (put .behind i) (restIs i)) ∙ sets-append a b out (p .end) ∙ ap (sets out (p .end)) (sym whole) ∙ l .bytes;
@@ -126,10 +127,10 @@ module _ {text old : List ℕ} {start : ℕ} {out : List ℕ} {p : Progress} {at
       }
 
 pub left-done : {text old : List ℕ} {start : ℕ} {out : List ℕ} {p : Progress} {at : ℕ} → Left text old start out p at → length text ≤ at
-    → (new : List ℕ) (next : ℕ) → Put out (p .end) (chartAll (p .chart) (finished (seen (p .set)))) new next → Put old start (textLines text) new next
+    → (new : List ℕ) (next : ℕ) → Put out (p .end) (chartAll (chartAt (p .chart)) (finished (seen (p .set)))) new next → Put old start (textLines text) new next
 unfolding setsOf
 left-done {text} {old} {start} {out} {p} {at} l h new next put =
-    let e = ap (λ (ls : List LineRead). chartAll (p .chart) (setsOf (seen (p .set)) ls)) (lines-end text at h) in
+    let e = ap (λ (ls : List LineRead). chartAll (chartAt (p .chart)) (setsOf (seen (p .set)) ls)) (lines-end text at h) in
     record { written = put .written ∙ ap (sets out (p .end)) (sym e) ∙ l .bytes; behind = omega (arith, put .behind, ap length e, l .behind) }
 
 -- room for the last set
@@ -139,12 +140,12 @@ unfolding setsOf
 left-last {text} {old} {start} {out} {p} {at} l h =
     omega (arith, ap (λ (ls : List LineRead). length (setsOf (seen (p .set)) ls)) (lines-end text at h), l .room, l .long)
 
-pub left-start : (text old : List ℕ) (start : ℕ) (p : Progress) → p .chart ≡ freshChart 0 → seen (p .set) ≡ none → p .set .count ≡ 0 → p .set .week ≡ 0 → p .end ≡ start
+pub left-start : (text old : List ℕ) (start : ℕ) (p : Progress) → chartAt (p .chart) ≡ freshChart 0 → seen (p .set) ≡ none → p .set .count ≡ 0 → p .set .week ≡ 0 → p .end ≡ start
     → GoodLines 0 0 (valueLines text) → start + 40 * length (textSets text) ≤ length old → Left text old start old p 29
 unfolding textLines textSets
 left-start text old start p c s n w e g h =
     let setsIs = ap (λ (t : Gathered). setsOf t (valueLines text)) s in
-    let all : chartAll (p .chart) (setsOf (seen (p .set)) (valueLines text)) ≡ textLines text = λ i. chartAll (c i) (setsIs i) in
+    let all : chartAll (chartAt (p .chart)) (setsOf (seen (p .set)) (valueLines text)) ≡ textLines text = λ i. chartAll (c i) (setsIs i) in
     record {
       bytes = λ i. sets old (e i) (all i);
       behind = omega (arith, ap length all);

@@ -24,7 +24,7 @@ fn write_sets(text: &[u8], out: &mut [u8], start: usize) -> usize
     ensures { λ r. ⌜ Put (now (out .entry)) start (textLines (now (text .entry))) (now (out .exit)) r ⌝ }
 {
     let mut p = Progress {
-        chart: chart_state::fresh_chart(0),
+        chart: [0; 15],
         set: TextSet {
             week: 0,
             count: 0,

@@ -3,13 +3,16 @@ use mathlib.Core.Path.{_≡_, refl, sym, ap, _∙_}
 use mathlib.Core.List.{List, [], _∷_, _++_, append-assoc, append-nil}
 use Prim.Native.Nat.{ℕ, _*_, _≤_}
 use native.Mathlib.Omega.{arith}
+use lib.IntN.{ℤ}
 use lib.ListN.{length, take, length-append}
 use Rattle.chart_state.specs.declared.Chart.{Chart}
 use Rattle.chart_line.specs.declared.Values.{Values}
 use Rattle.chart.specs.Calls.{resultOf, bytesOf}
-use Rattle.chart.specs.declared.ChartResult.{ChartResult}
 use Rattle.chart.specs.declared.ChartAnswer.{ChartAnswer}
 use Rattle.chart.specs.declared.ChartAnswer.the-variants.{Charted}
+use Rattle.chart_places.specs.ChartPlaces.{chartAt}
+use Rattle.chart.specs.InPlace.{leftBy}
+use Rattle.chart.proofs.InPlace.{left-holds}
 use Rattle.chart.proofs.Charted.{line-fits, charted-length}
 use Rattle.chart_gather.specs.Gathering.{Gathered, finished, seen}
 use Rattle.chart_gather.specs.Charting.{chartAll, chartAfter}
@@ -30,17 +33,19 @@ chart-short c (s ∷ l) =
     simp length-append (omega (arith, line-fits .forty c (s .week) (s .numbers) 40, chart-short (r .chart) l))
 
 -- ---- the set under way, charted
-module _ (c : Chart) (s : TextSet) (fin : finished (seen s) ≡ seen s ∷ []) (r : ChartResult) (res : r ≡ resultOf c (s .week) (take (2 * s .count) (s .numbers)) 40) where
-  pub flush-chart : r .chart ≡ chartAfter c (finished (seen s))
+module _ (words : List ℤ) (s : TextSet) (fin : finished (seen s) ≡ seen s ∷ []) (a : ChartAnswer) (is : a ≡ resultOf (chartAt words) (s .week) (take (2 * s .count) (s .numbers)) 40 .answer) where
+  pub flush-chart : (left : List ℤ) → left ≡ leftBy a words (s .week) (take (2 * s .count) (s .numbers)) → chartAt left ≡ chartAfter (chartAt words) (finished (seen s))
   unfolding chartAfter seen
-  flush-chart = ap (λ (x : ChartResult). x .chart) res ∙ sym (ap (chartAfter c) fin)
+  flush-chart left e =
+      ap chartAt (e ∙ ap (λ (x : ChartAnswer). leftBy x words (s .week) (take (2 * s .count) (s .numbers))) is)
+      ∙ left-holds words (s .week) (take (2 * s .count) (s .numbers)) 40 ∙ sym (ap (chartAfter (chartAt words)) fin)
 
-  pub flush-bytes : bytesOf (r .answer) ≡ chartAll c (finished (seen s))
+  pub flush-bytes : bytesOf a ≡ chartAll (chartAt words) (finished (seen s))
   unfolding chartAll seen
-  flush-bytes = ap (λ (x : ChartResult). bytesOf (x .answer)) res ∙ sym (append-nil _) ∙ sym (ap (chartAll c) fin)
+  flush-bytes = ap bytesOf is ∙ sym (append-nil _) ∙ sym (ap (chartAll (chartAt words)) fin)
 
-  pub flush-length : (v : Values) (k : ℕ) → r .answer ≡ Charted v k → k ≡ length (bytesOf (r .answer))
+  pub flush-length : (v : Values) (k : ℕ) → a ≡ Charted v k → k ≡ length (bytesOf a)
   unfolding bytesOf
   flush-length v k e =
-      charted-length c (s .week) (take (2 * s .count) (s .numbers)) 40 v k (ap (λ (x : ChartResult). x .answer) (sym res) ∙ e)
-      ∙ sym (ap (λ (a : ChartAnswer). length (bytesOf a)) e)
+      charted-length (chartAt words) (s .week) (take (2 * s .count) (s .numbers)) 40 v k (sym is ∙ e)
+      ∙ sym (ap (λ (x : ChartAnswer). length (bytesOf x)) e)

@@ -3,7 +3,9 @@ use Prim.Native.Nat.{ℕ}
 use mathlib.Core.Path.{_≡_}
 use mathlib.Core.List.{List, [], _∷_, _++_}
 use Rattle.chart_lines.specs.declared.ValueLine.{ValueLine}
+use lib.IntN.{ℤ}
 use Rattle.chart_state.specs.declared.Chart.{Chart}
+use Rattle.chart_places.specs.ChartPlaces.{chartAt}
 use Rattle.chart.specs.Calls.{resultOf, bytesOf}
 use Rattle.chart_gather.specs.Gathering.{Gathered, none, finished, seen, closed, kept, joined}
 use Rattle.chart_gather.specs.declared.TextSet.{TextSet}
@@ -22,13 +24,13 @@ chartAfter c [] = c
 chartAfter c (s ∷ sets) = chartAfter (resultOf c (s .week) (s .numbers) 40 .chart) sets
 
 -- ---- what the code's progress stands for
-pub record Flushed (c : Chart) (s : TextSet) (r : Progress) : Type 0 where
-  pub chart : r .chart ≡ chartAfter c (finished (seen s))
+pub record Flushed (chart : List ℤ) (s : TextSet) (r : Progress) : Type 0 where
+  pub after : chartAt (r .chart) ≡ chartAfter (chartAt chart) (finished (seen s))
   pub set : seen (r .set) ≡ none
   pub count : r .set .count ≡ 0
 
 pub record Stepped (p : Progress) (v : ValueLine) (r : Progress) : Type 0 where
-  pub chart : r .chart ≡ chartAfter (p .chart) (closed (seen (p .set)) v)
+  pub after : chartAt (r .chart) ≡ chartAfter (chartAt (p .chart)) (closed (seen (p .set)) v)
   pub set : seen (r .set) ≡ joined (kept (seen (p .set)) v) v
   pub count : r .set .count ≡ v .sample
   pub week : r .set .week ≡ v .week

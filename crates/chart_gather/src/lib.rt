@@ -1,12 +1,12 @@
 // A chart text's lines grouped into sets, each set charted when it is complete.
 use chart::ChartAnswer;
 use chart_lines::ValueLine;
-use chart_state::Chart;
 ghost use mathlib.Core.Path.{_≡_};
 ghost use Prim.Native.Nat.{_+_, _*_, _<_, _≤_};
 ghost use lib.IntN.{pos};
 ghost use lib.ListN.{length};
 ghost use Rattle.decimal.specs.Put.{Put};
+ghost use Rattle.chart_places.specs.ChartPlaces.{chartAt};
 ghost use Rattle.chart_ruling.specs.Rulings.{FineLine};
 ghost use Rattle.chart_gather.specs.Gathering.{seen, finished, closed, Grown};
 ghost use Rattle.chart_gather.specs.Charting.{chartAll, Flushed, Stepped};
@@ -18,9 +18,9 @@ pub struct TextSet {
     pub numbers: [i32; 10],
 }
 
-// The chart so far, the set under way, and where the next output line goes.
+// The chart so far, in its places, the set under way, and where the next output line goes.
 pub struct Progress {
-    pub chart: Chart,
+    pub chart: [i32; 15],
     pub set: TextSet,
     pub end: usize,
 }
@@ -52,9 +52,9 @@ fn joined(s: TextSet, v: ValueLine) -> TextSet
 }
 
 // The set under way is charted, if it has a line.
-pub fn flush(chart: Chart, s: TextSet, out: &mut [u8], end: usize) -> Progress
+pub fn flush(chart: [i32; 15], s: TextSet, out: &mut [u8], end: usize) -> Progress
     requires { ⌜ (s .count ≤ 5) × (end + 40 * length (finished (seen s)) ≤ length (now out)) ⌝ }
-    ensures { λ r. ⌜ Flushed chart s r × Put (now (out .entry)) end (chartAll chart (finished (seen s))) (now (out .exit)) (r .end) ⌝ }
+    ensures { λ r. ⌜ Flushed chart s r × Put (now (out .entry)) end (chartAll (chartAt chart) (finished (seen s))) (now (out .exit)) (r .end) ⌝ }
 {
     let count = s.count;
     let set = TextSet {
@@ -67,10 +67,8 @@ pub fn flush(chart: Chart, s: TextSet, out: &mut [u8], end: usize) -> Progress
     }
     let numbers = s.numbers;
     let k = 2 * count;
-    let r = chart::chart_at(chart, s.week, &numbers[0..k], out, end);
-    let next = r.chart;
-    let answer = r.answer;
-    match answer {
+    let mut next = chart;
+    match chart::chart_set_at(&mut next, s.week, &numbers[0..k], out, end) {
         ChartAnswer::Charted(_, length) => Progress {
             chart: next,
             set,
@@ -88,7 +86,7 @@ pub fn flush(chart: Chart, s: TextSet, out: &mut [u8], end: usize) -> Progress
 pub fn take_line(p: Progress, v: ValueLine, out: &mut [u8]) -> Progress
     requires { ⌜ FineLine (p .set .week) (p .set .count) v ⌝ }
     requires { ⌜ (p .set .count ≤ 5) × (p .end + 40 * length (closed (seen (p .set)) v) ≤ length (now out)) ⌝ }
-    ensures { λ r. ⌜ Stepped p v r × Put (now (out .entry)) (p .end) (chartAll (p .chart) (closed (seen (p .set)) v)) (now (out .exit)) (r .end) ⌝ }
+    ensures { λ r. ⌜ Stepped p v r × Put (now (out .entry)) (p .end) (chartAll (chartAt (p .chart)) (closed (seen (p .set)) v)) (now (out .exit)) (r .end) ⌝ }
 {
     let chart = p.chart;
     let set = p.set;

@@ -1,13 +1,11 @@
-// A chart: its soundness, a fresh one, and the chart after a set.
+// A chart: its soundness, and a fresh one.
 use chart_sets::ChartSet;
 use whole::flags;
 ghost use mathlib.Core.Path.{_≡_};
-ghost use mathlib.Core.List.{_∷_};
-ghost use Prim.Native.Nat.{_≤_};
 ghost use lib.ListN.{take};
 ghost use Rattle.whole.specs.Lists.{all};
 ghost use Rattle.chart_sets.specs.Soundness.{soundSet};
-ghost use Rattle.chart_state.specs.Charts.{sound as soundOf, freshChart, nextChart};
+ghost use Rattle.chart_state.specs.Charts.{sound as soundOf, freshChart};
 
 // A chart: its row, its last week, and its held sets, newest first, in the first `held` places.
 pub struct Chart {
@@ -56,31 +54,5 @@ pub fn fresh_chart(row: u32) -> Chart
         week: 0,
         held: 0,
         sets: [blank, blank, blank, blank],
-    }
-}
-
-// ---- the chart after a set
-
-// A new set in front of three.
-fn shifted(s: ChartSet, sets: [ChartSet; 4]) -> [ChartSet; 4]
-    ensures { λ r. ⌜ r ≡ s ∷ take 3 sets ⌝ }
-{
-    [s, sets[0], sets[1], sets[2]]
-}
-
-// The chart with one set more, of which the newest four are held.
-pub fn next_chart(chart: Chart, week: u32, s: ChartSet) -> Chart
-    requires { ⌜ chart .held ≤ 4 ⌝ }
-    ensures { λ r. ⌜ r ≡ nextChart chart week s ⌝ }
-{
-    let old = chart.sets;
-    let sets = shifted(s, old);
-    let held = held_sets::one_more(chart.held);
-    let row = chart.row;
-    Chart {
-        row,
-        week,
-        held,
-        sets,
     }
 }

@@ -1,55 +1,22 @@
-use mathlib.Core.Path.{_≡_, refl, sym, ap, _∙_}
+-- `chart::chart_set` meets its contract: the line stands at the buffer's start.
+use mathlib.Core.Path.{_≡_, ap, _∙_}
 use native.Mathlib.Omega.{arith}
-use Prim.Native.Nat.{_-_, _≤_}
+use Prim.Native.Nat.{ℕ, _-_, _≤_}
 use lib.ListN.{length}
 use denote.Ref.{now}
 use Rattle.decimal.specs.Put.{overwritten}
 use Rattle.decimal.proofs.Put.{put-whole}
-use Rattle.chart_places.specs.ChartPlaces.{chartAt, nextPlaces}
-use Rattle.chart.specs.Calls.{resultOf, bytesOf}
+use Rattle.chart_places.specs.ChartPlaces.{chartAt}
+use Rattle.chart.specs.Calls.{resultOf, bytesOf, chartSetOf}
+use Rattle.chart.specs.InPlace.{leftBy, chartSetIn}
 use Rattle.chart.specs.declared.ChartAnswer.{ChartAnswer}
 use Rattle.chart.proofs.Charted.{line-fits}
-use Rattle.chart.proofs.Accepted.{put-by}
-use Rattle.chart.proofs.InPlace.{ready, call-in}
 use borrow.Author.Needs.{needs}
 use Rattle.chart.proofs.chart_set.Statement.{statement}
 use Rattle.chart.proofs.chart_set.Tie as tie
 
--- the answer, by the definition on the chart that the places hold
-answered : (c : tie.After-answer-at) (a : ChartAnswer) → c .answer-at .result ≡ a
-    → a ≡ resultOf (chartAt (now (c .before .before .before .before .before .args .state))) (c .before .before .before .before .before .args .week) (now (c .before .before .before .before .before .args .numbers)) (length (now (c .before .before .before .before .before .args .out))) .answer
-answered c a e =
-    let s = c .before .before .before .before .before in
-    let old = now (s .args .out) in
-    let all : length old - 0 ≡ length old = omega arith in
-    sym e ∙ c .answer-at .ensures .0
-    ∙ (λ i. resultOf (c .before .before .chart-at .ensures i) (s .args .week) (now (s .args .numbers)) (all i) .answer)
-
-bytes : (c : tie.After-answer-at) (a : ChartAnswer) → c .answer-at .result ≡ a → c .answer-at .last .1 .1 .1 .0 ≡ overwritten (bytesOf a) (now (c .before .before .before .before .before .args .out))
-bytes c a e =
-    let s = c .before .before .before .before .before in
-    let short : length (bytesOf a) ≤ length (now (s .args .out)) = rw (answered c a e) (line-fits .inside (chartAt (now (s .args .state))) (s .args .week) (now (s .args .numbers)) (length (now (s .args .out)))) in
-    put-whole (put-by e (c .answer-at .ensures .1)) short .0
-
-chart-at-requires : tie.Need-chart-at-requires
-chart-at-requires c κs = search needs
-
-answer-at-requires : tie.Need-answer-at-requires
-answer-at-requires c κs = search needs
-
-enum-known-refusal : tie.Need-enum-known-refusal
-enum-known-refusal c = search needs
-
-enum-known-values : tie.Need-enum-known-values
-enum-known-values c = search needs
-
-set-in-requires : tie.Need-set-in-requires
-set-in-requires c κs = search needs
-
-put-next-requires : tie.Need-put-next-requires
-put-next-requires c κs =
-    let r = ready _ _ _ _ _ _ (answered (c .before .before .before .before .before .before .before) _ (c .before .before .before .values .given .1)) in
-    ((r .full, r .held), (r .time, rw (c .set-in .ensures) (r .fits)))
+chart-set-at-requires : tie.Need-chart-set-at-requires
+chart-set-at-requires c κs = search needs
 
 same-length : tie.Need-same-length
 same-length c = search needs
@@ -58,37 +25,19 @@ same-length-2 : tie.Need-same-length-2
 same-length-2 c = search needs
 
 returns : tie.Need-returns
+unfolding chartSetIn chartSetOf
 returns c =
-    let told = c .before .refusal .given .1 in
-    call-in _ _ _ _ _ _ _ (answered (c .before .before .before .before .before) _ told) refl (bytes (c .before .before .before .before .before) _ told)
-
-same-length-3 : tie.Need-same-length-3
-same-length-3 c = search needs
-
-same-length-4 : tie.Need-same-length-4
-same-length-4 c = search needs
-
-returns-2 : tie.Need-returns-2
-returns-2 c =
-    let s = c .before .before .before .before .before .before .before .before .before .before .before .before .before .before in
-    let told = c .before .before .before .before .before .values .given .1 in
-    let is = answered (c .before .before .before .before .before .before .before .before .before) _ told in
-    let set = c .before .before .set-in .ensures ∙ ready _ _ _ _ _ _ is .set in
-    call-in _ _ _ _ _ _ _ is (c .before .put-next .ensures ∙ ap (nextPlaces (now (s .args .state)) (s .args .week)) set) (bytes (c .before .before .before .before .before .before .before .before .before) _ told)
+    let call = c .before .before .before .chart-set-at .ensures in
+    let s = c .before .before .before .before .before .before .before .args in
+    let words = now (s .state) in
+    let numbers = now (s .numbers) in
+    let old = now (s .out) in
+    let all : length old - 0 ≡ length old = omega arith in
+    let is = call .0 ∙ ap (λ (room : ℕ). resultOf (chartAt words) (s .week) numbers room .answer) all in
+    let short : length (bytesOf (c .before .before .before .chart-set-at .result)) ≤ length old = rw is (line-fits .inside (chartAt words) (s .week) numbers (length old)) in
+    let places = call .1 .0 ∙ ap (λ (a : ChartAnswer). leftBy a words (s .week) numbers) is in
+    let bytes = put-whole (call .1 .1) short .0 ∙ ap (λ (a : ChartAnswer). overwritten (bytesOf a) old) is in
+    λ i. record { answer = is i; places = places i; buffer = bytes i }
 
 pub chart-set-spec : {M : Type 1} → statement M
-chart-set-spec =
-    tie.close
-    (tie.spec
-    chart-at-requires
-    answer-at-requires
-    enum-known-refusal
-    enum-known-values
-    set-in-requires
-    put-next-requires
-    same-length
-    same-length-2
-    returns
-    same-length-3
-    same-length-4
-    returns-2)
+chart-set-spec = tie.close (tie.spec chart-set-at-requires same-length same-length-2 returns)

@@ -6,6 +6,8 @@ use mathlib.Core.List.{List}
 use Prim.Native.Nat.{ℕ, _-_, _<_}
 use lib.ListN.{length}
 use denote.Ref.{now}
+use Rattle.chart_places.specs.ChartPlaces.{freshPlaces}
+use Rattle.chart_places.proofs.ReadBack.{read-back}
 use Rattle.chart_lines.specs.Line.{lineAt}
 use Rattle.chart_lines.specs.declared.LineRead.the-variants.{Values}
 use Rattle.chart_lines.proofs.Forward.{line-forward}
@@ -29,7 +31,7 @@ abbrev at-loop : Read → tie.At-loop Inv-loop μ-loop
 at-loop c = c .before .before .before .before .before
 
 abbrev text : Read → List ℕ
-text c = now (at-loop c .before .before .before .before .args .text)
+text c = now (at-loop c .before .before .before .args .text)
 
 read : (c : Read) → lineAt (text c) (at-loop c .loop .at) ≡ Values (c .before .v .given .0 .0) (c .before .v .given .0 .1 .0)
 read c = sym (c .before .before .before .read-line .ensures) ∙ c .before .v .given .1
@@ -40,12 +42,9 @@ inside c = c .before .before .before .before .loop-test .taken
 forward : (c : Read) → at-loop c .loop .at < c .before .v .given .0 .1 .0
 forward c = line-forward _ _ _ _ (read c)
 
-fresh-chart-requires : tie.Need-fresh-chart-requires Inv-loop μ-loop
-fresh-chart-requires c κs = search needs
-
 loop-holds : tie.Need-loop-holds Inv-loop μ-loop
-unfolding seen
-loop-holds c = left-start _ _ _ _ (c .fresh-chart .ensures) refl refl refl refl (c .before .before .before .pre .0) (c .before .before .before .pre .1)
+unfolding seen freshPlaces
+loop-holds c = left-start _ _ _ _ (read-back .fresh 0) refl refl refl refl (c .before .before .pre .0) (c .before .before .pre .1)
 
 read-line-requires : tie.Need-read-line-requires Inv-loop μ-loop
 read-line-requires c κs = search needs
@@ -91,7 +90,6 @@ write-sets-spec =
     (tie.spec
     Inv-loop
     μ-loop
-    fresh-chart-requires
     loop-holds
     read-line-requires
     enum-known-v

@@ -3,12 +3,13 @@ use Prim.Native.Nat.{_+_, _-_, _≤_, ℕ, _*_}
 use mathlib.Core.List.{_∷_, []}
 use lib.ListN.{take, length}
 use denote.Ref.{now}
-use Rattle.chart.specs.Calls.{resultOf}
+use Rattle.chart_places.specs.ChartPlaces.{chartAt}
+use Rattle.chart.specs.Calls.{ChartResult, resultOf, bytesOf}
 use Rattle.chart.proofs.Charted.{enough-room}
 use Rattle.chart_line.specs.declared.Values.{Values}
 use Rattle.chart.specs.declared.ChartAnswer.{ChartAnswer}
 use Rattle.chart.specs.declared.ChartAnswer.the-variants.{Charted}
-use Rattle.chart.specs.Calls as Call
+use Rattle.chart.specs.InPlace.{leftBy}
 use Rattle.chart_gather.specs.Gathering.{finished, seen}
 use Rattle.chart_gather.proofs.Gathering.{seen-none, seen-some}
 use Rattle.chart_gather.proofs.Charting.{chart-short, flush-chart, flush-bytes, flush-length}
@@ -20,57 +21,80 @@ use borrow.Author.Needs.{needs}
 use Rattle.chart_gather.proofs.flush.Statement.{statement}
 use Rattle.chart_gather.proofs.flush.Tie as tie
 
-fin : (c : tie.After-chart-at) → finished (seen (c .before .before .before .before .before .before .before .args .s)) ≡ seen (c .before .before .before .before .before .before .before .args .s) ∷ []
-fin c =
-    let s = c .before .before .before .before .before .before .before in
-    let ten : length (s .args .s .numbers) ≡ 10 = search needs in
-    seen-some (s .args .s) (c .before .before .before .before .before .if1 .left) (s .pre .0) ten
+-- where the call has returned
+abbrev Called : Type 0
+Called = tie.After-chart-set-at
 
-res : (c : tie.After-chart-at) → c .chart-at .result ≡ resultOf (c .before .before .before .before .before .before .before .args .chart) (c .before .before .before .before .before .before .before .args .s .week) (take (2 * c .before .before .before .before .before .before .before .args .s .count) (c .before .before .before .before .before .before .before .args .s .numbers)) 40
-res c =
-    let s = c .before .before .before .before .before .before .before in
+abbrev start : Called → tie.Start
+start c = c .before .before .before .before .before .before .before .before
+
+fin : (c : Called) → finished (seen (start c .args .s)) ≡ seen (start c .args .s) ∷ []
+fin c =
+    let ten : length (start c .args .s .numbers) ≡ 10 = search needs in
+    seen-some (start c .args .s) (c .before .before .before .before .before .before .if1 .left) (start c .pre .0) ten
+
+is : (c : Called) → c .chart-set-at .result ≡ resultOf (chartAt (start c .args .chart)) (start c .args .s .week) (take (2 * start c .args .s .count) (start c .args .s .numbers)) 40 .answer
+is c =
+    let s = start c in
     let out = now (s .args .out) in
     let k : 2 * s .args .s .count - 0 ≡ 2 * s .args .s .count = omega arith in
     let room : 40 ≤ length out - s .args .end = omega (arith, s .pre .1, ap length (fin c)) in
-    c .chart-at .ensures .0
-    ∙ ap (λ (n : ℕ). resultOf (s .args .chart) (s .args .s .week) (take n (s .args .s .numbers)) (length out - s .args .end)) k
-    ∙ enough-room _ _ _ _ room
+    c .chart-set-at .ensures .0
+    ∙ ap (λ (n : ℕ). resultOf (chartAt (s .args .chart)) (s .args .s .week) (take n (s .args .s .numbers)) (length out - s .args .end) .answer) k
+    ∙ ap (λ (r : ChartResult). r .answer) (enough-room _ _ _ _ room)
 
-answered : (c : tie.After-chart-at) (v : Values) (k : ℕ) → c .chart-at .result .answer ≡ Charted v k → k ≡ length (Call.bytesOf (c .chart-at .result .answer))
-answered c v k e = flush-length _ _ (fin c) _ (res c) v k e
+left : (c : Called) → c .chart-set-at .last .0 ≡ leftBy (c .chart-set-at .result) (start c .args .chart) (start c .args .s .week) (take (2 * start c .args .s .count) (start c .args .s .numbers))
+left c =
+    let s = start c in
+    let k : 2 * s .args .s .count - 0 ≡ 2 * s .args .s .count = omega arith in
+    c .chart-set-at .ensures .1 .0 ∙ ap (λ (n : ℕ). leftBy (c .chart-set-at .result) (s .args .chart) (s .args .s .week) (take n (s .args .s .numbers))) k
+
+answered : (c : Called) (v : Values) (k : ℕ) → c .chart-set-at .result ≡ Charted v k → k ≡ length (bytesOf (c .chart-set-at .result))
+answered c v k e = flush-length (start c .args .chart) (start c .args .s) (fin c) _ (is c) v k e
+
+bytes : (c : Called) → bytesOf (c .chart-set-at .result) ≡ chartAll (chartAt (start c .args .chart)) (finished (seen (start c .args .s)))
+bytes c = flush-bytes (start c .args .chart) (start c .args .s) (fin c) _ (is c)
+
+after : (c : Called) → chartAt (c .chart-set-at .last .0) ≡ chartAfter (chartAt (start c .args .chart)) (finished (seen (start c .args .s)))
+after c = flush-chart (start c .args .chart) (start c .args .s) (fin c) _ (is c) _ (left c)
 
 returns : tie.Need-returns
 unfolding chartAll chartAfter seen
 returns c =
     let s = c .before .before in
     let e = seen-none (s .args .s) (c .if1 .taken) in (
-      record { chart = sym (ap (chartAfter (s .args .chart)) e); set = refl; count = refl },
-      put-is (record { written = refl; behind = omega arith }) (sym (ap (chartAll (s .args .chart)) e)),
+      record { after = sym (ap (chartAfter (chartAt (s .args .chart))) e); set = refl; count = refl },
+      put-is (record { written = refl; behind = omega arith }) (sym (ap (chartAll (chartAt (s .args .chart))) e)),
     )
 
 mul-k : tie.Need-mul-k
 mul-k c = search needs
 
-sub-chart-at : tie.Need-sub-chart-at
-sub-chart-at c = search needs
+slice-aggregate-chart-set-at : tie.Need-slice-aggregate-chart-set-at
+slice-aggregate-chart-set-at c = search needs
 
-part-chart-at-start : tie.Need-part-chart-at-start
-part-chart-at-start c = search needs
+sub-chart-set-at : tie.Need-sub-chart-set-at
+sub-chart-set-at c = search needs
 
-part-chart-at-end : tie.Need-part-chart-at-end
-part-chart-at-end c = let ten : length (c .before .before .before .before .args .s .numbers) ≡ 10 = search needs in omega (arith, c .before .before .before .before .pre .0)
+part-chart-set-at-start : tie.Need-part-chart-set-at-start
+part-chart-set-at-start c = search needs
 
-chart-at-requires : tie.Need-chart-at-requires
-chart-at-requires c κs = search needs
+part-chart-set-at-end : tie.Need-part-chart-set-at-end
+part-chart-set-at-end c =
+    let s = c .before .before .before .before .before in
+    let ten : length (s .args .s .numbers) ≡ 10 = search needs in omega (arith, s .pre .0)
 
-enum-known-answer : tie.Need-enum-known-answer
-enum-known-answer c = search needs
+chart-set-at-requires : tie.Need-chart-set-at-requires
+chart-set-at-requires c κs = search needs
 
-add-t23 : tie.Need-add-t23
-add-t23 c =
+enum-known-length : tie.Need-enum-known-length
+enum-known-length c = search needs
+
+add-t25 : tie.Need-add-t25
+add-t25 c =
     let r = c .before .before .before .before .before .before in
-    let s = c .before .before .before .before .before .before .before .before .before .before .before .before .before in
-    omega (arith, answered r _ _ (c .before .answer .given .1), ap length (flush-bytes (s .args .chart) (s .args .s) (fin r) _ (res r)), chart-short (s .args .chart) (finished (seen (s .args .s))), ap length (fin r), s .pre .1)
+    let s = start r in
+    omega (arith, answered r _ _ (c .before .length .given .1), ap length (bytes r), chart-short (chartAt (s .args .chart)) (finished (seen (s .args .s))), ap length (fin r), s .pre .1)
 
 enum-told : tie.Need-enum-told
 enum-told c = search needs
@@ -82,25 +106,23 @@ returns-2 : tie.Need-returns-2
 unfolding seen
 returns-2 c =
     let r = c .before .before .before .before .before .before in
-    let s = c .before .before .before .before .before .before .before .before .before .before .before .before .before in
-    let k = answered r _ _ (c .before .answer .given .1) in
-    let put = r .chart-at .ensures .1 in (
-      record { chart = flush-chart (s .args .chart) (s .args .s) (fin r) (r .chart-at .result) (res r); set = refl; count = refl },
-      put-is (record { written = put .written; behind = ap (λ (n : ℕ). s .args .end + n) k }) (flush-bytes (s .args .chart) (s .args .s) (fin r) (r .chart-at .result) (res r)),
+    let k = answered r _ _ (c .before .length .given .1) in
+    let put = r .chart-set-at .ensures .1 .1 in (
+      record { after = after r; set = refl; count = refl },
+      put-is (record { written = put .written; behind = ap (λ (n : ℕ). start r .args .end + n) k }) (bytes r),
     )
 
 same-length-2 : tie.Need-same-length-2
 same-length-2 c = search needs
 
 returns-3 : tie.Need-returns-3
-unfolding seen Call.bytesOf
+unfolding seen bytesOf
 returns-3 c =
     let r = c .before .before .before .before .before in
-    let s = c .before .before .before .before .before .before .before .before .before .before .before .before in
-    let put = r .chart-at .ensures .1 in
-    let k = ap (λ (a : ChartAnswer). s .args .end + length (Call.bytesOf a)) (c .enum-told .given .1) in (
-      record { chart = flush-chart (s .args .chart) (s .args .s) (fin r) (r .chart-at .result) (res r); set = refl; count = refl },
-      put-is (record { written = put .written; behind = omega (arith, k) }) (flush-bytes (s .args .chart) (s .args .s) (fin r) (r .chart-at .result) (res r)),
+    let put = r .chart-set-at .ensures .1 .1 in
+    let k = ap (λ (a : ChartAnswer). start r .args .end + length (bytesOf a)) (c .enum-told .given .1) in (
+      record { after = after r; set = refl; count = refl },
+      put-is (record { written = put .written; behind = omega (arith, k) }) (bytes r),
     )
 
 pub flush-spec : {M : Type 1} → statement M
@@ -109,12 +131,13 @@ flush-spec =
     (tie.spec
     returns
     mul-k
-    sub-chart-at
-    part-chart-at-start
-    part-chart-at-end
-    chart-at-requires
-    enum-known-answer
-    add-t23
+    slice-aggregate-chart-set-at
+    sub-chart-set-at
+    part-chart-set-at-start
+    part-chart-set-at-end
+    chart-set-at-requires
+    enum-known-length
+    add-t25
     enum-told
     same-length
     returns-2

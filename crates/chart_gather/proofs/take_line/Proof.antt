@@ -3,6 +3,7 @@ use mathlib.Core.Path.{refl, sym, ap, _∙_}
 use native.Mathlib.Omega.{arith}
 use lib.ListN.{length}
 use Rattle.decimal.proofs.Put.{put-is}
+use Rattle.chart_places.specs.ChartPlaces.{chartAt}
 use Rattle.chart_gather.specs.Gathering.{Gathered, seen, joined}
 use Rattle.chart_gather.specs.Charting.{chartAll, chartAfter}
 use Rattle.chart_gather.proofs.Gathering.{closed-start, closed-next, kept-start, kept-next}
@@ -32,12 +33,12 @@ returns c =
     let j = c .before .joined .ensures in
     let shut = sym (closed-start g (s .args .v) one) in (
       record {
-        chart = f .0 .chart ∙ ap (chartAfter (s .args .p .chart)) shut;
+        after = f .0 .after ∙ ap (chartAfter (chartAt (s .args .p .chart))) shut;
         set = j .is ∙ ap (λ (x : Gathered). joined x (s .args .v)) (f .0 .set ∙ sym (kept-start g (s .args .v) one));
         count = omega (arith, j .count, f .0 .count, one);
         week = j .week;
       },
-      put-is (f .1) (ap (chartAll (s .args .p .chart)) shut),
+      put-is (f .1) (ap (chartAll (chartAt (s .args .p .chart))) shut),
     )
 
 joined-requires-2 : tie.Need-joined-requires-2
@@ -52,12 +53,12 @@ returns-2 c =
     let j = c .joined2 .ensures in
     let shut = sym (closed-next g (s .args .v) other) in (
       record {
-        chart = ap (chartAfter (s .args .p .chart)) shut;
+        after = ap (chartAfter (chartAt (s .args .p .chart))) shut;
         set = j .is ∙ ap (λ (x : Gathered). joined x (s .args .v)) (sym (kept-next g (s .args .v) other));
         count = omega (arith, j .count, fine-next _ _ (s .args .v) (s .pre .0) other .1);
         week = j .week;
       },
-      put-is (record { written = refl; behind = omega arith }) (ap (chartAll (s .args .p .chart)) shut),
+      put-is (record { written = refl; behind = omega arith }) (ap (chartAll (chartAt (s .args .p .chart))) shut),
     )
 
 pub take-line-spec : {M : Type 1} → statement M
