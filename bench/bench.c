@@ -7,8 +7,8 @@
  *
  * With -DPLAIN_DIGITS plain C writes a chart line's numbers by hand, not by snprintf.
  *
- * Both sides are compiled apart from this file and called alike. Where the code of a call lies shifts the shortest ones
- * (readings, repairs) by up to 15 percent: two copies of the same code show it. */
+ * Both sides are compiled apart from this file and called alike. Where the code of a call lies shifts the shortest ones: the
+ * same code of a reading took 1.9 ns in one build of the library and 2.2 in another. */
 #define _POSIX_C_SOURCE 200809L
 
 #include "plain.h"

@@ -1,3 +1,8 @@
+use mathlib.Core.Path.{_∙_, ap}
+use mathlib.Core.List.{List}
+use Prim.Native.Nat.{ℕ}
+use lib.IntN.{ℤ, pos}
+use Rattle.held_sets.specs.Three.{three}
 use Rattle.held_sets.proofs.Twelve.{empties}
 use borrow.Author.Needs.{needs}
 use Rattle.held_sets.proofs.empty.Statement.{statement}
@@ -21,7 +26,10 @@ same-length c = search needs
 returns : tie.Need-returns
 returns c =
     let s = c .before .before .before .before .before .before .before .before .before .before .before .before in
-    cc (empties (s .args .part .now) (s .pre))
+    let blank : ℕ → List ℤ → List ℤ = λ at w. three w at (pos 0) (pos 0) (pos 0) in
+    c .before .put-set4 .ensures
+    ∙ ap (blank 9) (c .before .before .before .before .put-set3 .ensures ∙ ap (blank 6) (c .before .before .before .before .before .before .before .put-set2 .ensures ∙ ap (blank 3) (c .before .before .before .before .before .before .before .before .before .before .put-set .ensures)))
+    ∙ empties (s .args .part .now) (s .pre)
 
 pub empty-spec : {M : Type 1} → statement M
 empty-spec =

@@ -1,3 +1,8 @@
+use mathlib.Core.Path.{_∙_, ap}
+use mathlib.Core.List.{List}
+use Prim.Native.Nat.{_+_}
+use lib.IntN.{ℤ}
+use lib.ListN.{set}
 use borrow.Author.Needs.{needs}
 use Rattle.held_sets.proofs.put_set.Statement.{statement}
 use Rattle.held_sets.proofs.put_set.Tie as tie
@@ -21,7 +26,10 @@ same-length : tie.Need-same-length
 same-length c = search needs
 
 returns : tie.Need-returns
-returns c = cc
+returns c =
+    let s = c .before .before .before .before .before .before .before .before .before .args in
+    c .before .put3 .ensures
+    ∙ ap (λ (w : List ℤ). set w (s .at + 2) (s .c .z)) (c .before .before .before .before .put2 .ensures ∙ ap (λ (w : List ℤ). set w (s .at + 1) (s .b .z)) (c .before .before .before .before .before .before .before .put .ensures))
 
 pub put-set-spec : {M : Type 1} → statement M
 put-set-spec =

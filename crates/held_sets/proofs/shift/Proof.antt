@@ -1,3 +1,6 @@
+use mathlib.Core.Path.{_∙_}
+use Prim.Native.Nat.{_+_}
+use Rattle.held_sets.specs.Three.{three}
 use borrow.Author.Needs.{needs}
 use Rattle.held_sets.proofs.shift.Statement.{statement}
 use Rattle.held_sets.proofs.shift.Tie as tie
@@ -27,7 +30,10 @@ same-length : tie.Need-same-length
 same-length c = search needs
 
 returns : tie.Need-returns
-returns c = cc
+returns c =
+    let s = c .before .before .before .before .before .before .before .before .before .args in
+    c .before .put-set .ensures
+    ∙ (λ i. three (s .part .now) (s .at + 3) (c .before .before .before .before .before .before .before .number-at .ensures i) (c .before .before .before .before .before .number-at2 .ensures i) (c .before .before .before .number-at3 .ensures i))
 
 pub shift-spec : {M : Type 1} → statement M
 shift-spec =
