@@ -1,24 +1,24 @@
 // The exported functions of readings and stations.
-use answers::GrainAnswer;
-use station_answers::GrainCertificate;
-use station_answers::GrainOutcome;
-use station_answers::GrainValue;
+use abi_answers::GrainAnswer;
+use abi_station::GrainCertificate;
+use abi_station::GrainOutcome;
+use abi_station::GrainValue;
 ghost use mathlib.Core.Path.{_≡_};
 ghost use Rattle.reading.specs.Reading.{answerOf};
-ghost use Rattle.station_answers.specs.StationAnswers.{scanOf, basisFor, readingGiven, openCall, sheetCall, repairCall, marketCall};
+ghost use Rattle.abi_station.specs.StationAnswers.{scanOf, basisFor, readingGiven, openCall, sheetCall, repairCall, marketCall};
 
 #[no_mangle]
 pub extern "C" fn grain_reading(percent: f32) -> GrainValue
     ensures { λ r. ⌜ r ≡ readingGiven (answerOf percent) ⌝ }
 {
-    station_answers::read(reading::reading(percent))
+    abi_station::read(reading::reading(percent))
 }
 
 #[no_mangle]
 pub extern "C" fn grain_open(state: &mut [i32; 47], row: usize) -> GrainAnswer
     ensures { λ r. ⌜ record { answer = r; places = now (state .exit) } ≡ openCall row ⌝ }
 {
-    station_answers::opened(station::open(state, row))
+    abi_station::opened(station::open(state, row))
 }
 
 #[no_mangle]
@@ -30,14 +30,14 @@ pub extern "C" fn grain_sheet(
 ) -> GrainOutcome
     ensures { λ r. ⌜ record { answer = r; places = now (state .exit) } ≡ sheetCall (now (state .entry)) day line (now (numbers .entry)) ⌝ }
 {
-    station_answers::judged(station::sheet(state, day, line, numbers))
+    abi_station::judged(station::sheet(state, day, line, numbers))
 }
 
 #[no_mangle]
 pub extern "C" fn grain_repair(state: &mut [i32; 47], day: u32) -> GrainAnswer
     ensures { λ r. ⌜ record { answer = r; places = now (state .exit) } ≡ repairCall (now (state .entry)) day ⌝ }
 {
-    station_answers::repaired(station::repair(state, day))
+    abi_station::repaired(station::repair(state, day))
 }
 
 #[no_mangle]
@@ -54,7 +54,7 @@ pub extern "C" fn grain_market(
 ) -> GrainCertificate
     ensures { λ r. ⌜ record { answer = r; places = now (state .exit) } ≡ marketCall (now (state .entry)) day line (scanOf «scan_kind» first second third) (basisFor «basis_kind» basis) ⌝ }
 {
-    let scan = station_answers::scan_of(scan_kind, first, second, third);
-    let asked = station_answers::basis_for(basis_kind, basis);
-    station_answers::tested(market::market(state, day, line, scan, asked))
+    let scan = abi_station::scan_of(scan_kind, first, second, third);
+    let asked = abi_station::basis_for(basis_kind, basis);
+    abi_station::tested(market::market(state, day, line, scan, asked))
 }

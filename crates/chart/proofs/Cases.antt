@@ -5,8 +5,8 @@ use Rattle.decimal.specs.Show.{shown, show, showSigned}
 use Rattle.chart_bounds.specs.Bounds.{badWeek, badSize, outside, badResult}
 use Rattle.chart_sets.specs.Sets.{setOf}
 use Rattle.chart_sets.specs.Soundness.{soundSet}
-use Rattle.chart_rules.specs.Rows.{limitsOf}
-use Rattle.chart_rules.specs.Rules.{absolute, atOrAbove, atOrBelow, tolerance, rangeTolerance}
+use Rattle.chart_limits.specs.Rows.{limitsOf}
+use Rattle.chart_limits.specs.Rules.{absolute, atOrAbove, atOrBelow, tolerance, rangeTolerance}
 use Rattle.chart_run.specs.Run.{above, below, oneSide, sixtieths, runBy, run}
 use Rattle.chart_state.specs.Charts.{sound, freshChart, nextChart}
 use Rattle.chart_line.specs.Lines.{valuesOf, flagBytes, lineOf}

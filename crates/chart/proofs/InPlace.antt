@@ -11,7 +11,7 @@ use Rattle.whole.proofs.ListLaws.{by-test}
 use Rattle.chart_sets.specs.Sets.{setOf}
 use Rattle.chart_sets.specs.Soundness.{SetFits}
 use Rattle.chart_bounds.proofs.Bounds.{week-facts}
-use Rattle.chart_rules.specs.Rows.{rowExists}
+use Rattle.chart_limits.specs.Rows.{rowExists}
 use Rattle.chart_state.specs.Charts.{freshChart}
 use Rattle.chart_state.proofs.Soundness.{sound-chart}
 use Rattle.whole.specs.Places.{place, natural}

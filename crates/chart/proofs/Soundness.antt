@@ -11,7 +11,7 @@ use Rattle.chart_sets.specs.Sets.{setOf}
 use Rattle.chart_sets.specs.Soundness.{SetFits}
 use Rattle.chart_sets.proofs.Soundness.{set-fits, set-sound}
 use Rattle.chart_refusals.proofs.Fine.{FineCall, fine-call}
-use Rattle.chart_rules.specs.Rows.{rowExists}
+use Rattle.chart_limits.specs.Rows.{rowExists}
 use Rattle.chart.specs.Openings.{opening, openOf}
 use Rattle.chart_state.specs.Charts.{sound}
 use Rattle.chart.specs.Answers.{openSays}

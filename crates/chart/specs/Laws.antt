@@ -6,7 +6,7 @@ use mathlib.Core.List.{List, [], _∷_, map}
 use mathlib.Core.Option.{none, some}
 use lib.IntN.{ℤ}
 use lib.ListN.{length}
-use Rattle.chart_rules.specs.Rows.{rowExists}
+use Rattle.chart_limits.specs.Rows.{rowExists}
 use Rattle.chart_refusals.specs.Refusals.{numberOf}
 use Rattle.chart.specs.Openings.{openOf}
 use Rattle.chart_state.specs.Charts.{sound}

@@ -2,7 +2,7 @@
 use Prim.Native.Nat.{ℕ}
 use mathlib.Core.Bool.{not}
 use mathlib.Core.List.{List, [], _∷_}
-use Rattle.chart_rules.specs.Rows.{rowExists}
+use Rattle.chart_limits.specs.Rows.{rowExists}
 use Rattle.chart_state.specs.Charts.{freshChart}
 use Rattle.chart_refusals.specs.Refusals.{Check, firstRefusal}
 use Rattle.chart_refusals.specs.declared.Judgement.{Judgement}

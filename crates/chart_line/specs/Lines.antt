@@ -4,8 +4,8 @@ use mathlib.Core.List.{List, [], _∷_, _++_}
 use lib.IntN.{natAbs}
 use Rattle.decimal.specs.Show.{show, showSigned, bit}
 use Rattle.chart_sets.specs.declared.ChartSet.{ChartSet}
-use Rattle.chart_rules.specs.Rows.{limitsOf}
-use Rattle.chart_rules.specs.Rules.{absolute, tolerance, rangeAbsolute, rangeTolerance}
+use Rattle.chart_limits.specs.Rows.{limitsOf}
+use Rattle.chart_limits.specs.Rules.{absolute, tolerance, rangeAbsolute, rangeTolerance}
 use Rattle.chart_run.specs.Run.{run}
 use Rattle.chart_state.specs.Charts.{pastOf}
 use Rattle.chart_state.specs.declared.Chart.{Chart}

@@ -27,14 +27,14 @@ pub fn values_of(chart: Chart, week: u32, s: ChartSet) -> Values
     requires { ⌜ SetFits s × AllFit (pastOf chart) ⌝ }
     ensures { λ r. ⌜ r ≡ valuesOf chart week s ⌝ }
 {
-    let limits = chart_rules::limits_of(chart.row);
+    let limits = chart_limits::limits_of(chart.row);
     let held = chart.held;
     let sets = chart.sets;
-    let al = chart_rules::absolute(limits.al, s);
-    let tl = chart_rules::tolerance(limits.tl, s, held, sets);
+    let al = chart_limits::absolute(limits.al, s);
+    let tl = chart_limits::tolerance(limits.tl, s, held, sets);
     let run = chart_run::run(limits.run, s, held, sets);
     let ral = limits.ral <= s.range;
-    let rtl = chart_rules::range_tolerance(limits.rtl, s, held, sets);
+    let rtl = chart_limits::range_tolerance(limits.rtl, s, held, sets);
     Values {
         week,
         count: s.count,

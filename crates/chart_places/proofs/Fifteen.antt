@@ -8,7 +8,7 @@ use lib.Dec.{eqb}
 use lib.IntN.{ℤ}
 use lib.ListN.{length}
 use borrow.Author.Tests.{eqb-true, eq-eqb}
-use Rattle.chart_rules.specs.Rows.{rowExists}
+use Rattle.chart_limits.specs.Rows.{rowExists}
 use Rattle.chart_state.specs.Charts.{freshChart}
 use Rattle.whole.specs.Places.{place, natural}
 use Rattle.chart_places.specs.ChartPlaces.{chartIn, chartAt}

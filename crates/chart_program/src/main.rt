@@ -17,7 +17,7 @@ fn main() {
     let n = io::read_full(STDIN_FILENO, &mut text);
     // chart_file's ProgramFits: the output of every text fits.
     let mut out = [0u8; 400000];
-    let k = chart_print::print_text(&text[..n], &mut out);
+    let k = text_print::print_text(&text[..n], &mut out);
     if !print_front(&out, k) {
         io::write_all(
             STDERR_FILENO,

@@ -14,7 +14,7 @@ use Rattle.chart_bounds.specs.Bounds.{badWeek}
 use Rattle.chart_sets.specs.Soundness.{soundSet}
 use Rattle.chart_sets.specs.declared.ChartSet.{ChartSet}
 use Rattle.chart_bounds.proofs.Bounds.{week-facts}
-use Rattle.chart_rules.specs.Rows.{rowExists}
+use Rattle.chart_limits.specs.Rows.{rowExists}
 use Rattle.chart_state.specs.Charts.{sound, pastOf, freshChart, nextChart}
 use Rattle.chart_state.specs.Laws.{NewestFour}
 use Rattle.chart_state.specs.declared.Chart.{Chart}

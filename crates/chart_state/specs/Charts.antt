@@ -8,7 +8,7 @@ use Rattle.whole.specs.Lists.{all}
 use Rattle.chart_sets.specs.Sets.{blankSet}
 use Rattle.chart_sets.specs.Soundness.{soundSet}
 use Rattle.chart_sets.specs.declared.ChartSet.{ChartSet}
-use Rattle.chart_rules.specs.Rows.{rowExists}
+use Rattle.chart_limits.specs.Rows.{rowExists}
 use Rattle.chart_state.specs.declared.Chart.{Chart}
 
 -- the held sets, newest first

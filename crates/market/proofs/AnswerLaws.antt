@@ -13,27 +13,27 @@ use Rattle.whole.proofs.Tests.{to-true, or-none}
 use Rattle.reading.specs.Reading.{inRange, answerOf}
 use Rattle.reading.proofs.Laws.{answered, refused}
 use Rattle.reading.specs.declared.answer.Reading.{Reading}
-use Rattle.rules.specs.Rows.{standardBasis, lineCount}
-use Rattle.rules.specs.Refusals.{firstNumber}
-use Rattle.rules.specs.Lines.{Values}
-use Rattle.rules.specs.Markets.{basisOf, correctedValue, within, marketChecks, certificateOf}
-use Rattle.rules.specs.Judging.{dayCheck, marketNumbers}
-use Rattle.rules.specs.Soundness.{sound, soundCheck}
-use Rattle.rules.specs.Stations.{valuesOf, marketStation, marketResult, marketOf}
-use Rattle.rules.specs.Places.{stationIn}
-use Rattle.rules.specs.InPlace.{Left, withDay, marketLeft, marketIn}
-use Rattle.rules.specs.declared.Refusal.the-variants.{UnsoundStation, BadDay, UnknownLine, WrongScan, BadFloat, BadBasis, BadValue}
-use Rattle.rules.specs.declared.Scan.{Scan}
-use Rattle.rules.specs.declared.Basis.{Basis}
-use Rattle.rules.specs.Held.{Station}
-use Rattle.rules.specs.declared.Certificate.{Certificate}
-use Rattle.rules.specs.declared.MarketAnswer.{MarketAnswer}
-use Rattle.rules.specs.declared.MarketAnswer.the-variants.{Certified, Refused}
-use Rattle.scans.specs.Scans.{pickedOf}
-use Rattle.certificates.specs.Certified.{answerBy, certifiedOf}
+use Rattle.station_rules.specs.Rows.{standardBasis, lineCount}
+use Rattle.station_rules.specs.Refusals.{firstNumber}
+use Rattle.station_rules.specs.Lines.{Values}
+use Rattle.station_rules.specs.Markets.{basisOf, correctedValue, within, marketChecks, certificateOf}
+use Rattle.station_rules.specs.Judging.{dayCheck, marketNumbers}
+use Rattle.station_rules.specs.Soundness.{sound, soundCheck}
+use Rattle.station_rules.specs.Stations.{valuesOf, marketStation, marketResult, marketOf}
+use Rattle.station_rules.specs.Places.{stationIn}
+use Rattle.station_rules.specs.InPlace.{Left, withDay, marketLeft, marketIn}
+use Rattle.station_rules.specs.declared.Refusal.the-variants.{UnsoundStation, BadDay, UnknownLine, WrongScan, BadFloat, BadBasis, BadValue}
+use Rattle.station_rules.specs.declared.Scan.{Scan}
+use Rattle.station_rules.specs.declared.Basis.{Basis}
+use Rattle.station_rules.specs.Held.{Station}
+use Rattle.station_rules.specs.declared.Certificate.{Certificate}
+use Rattle.station_rules.specs.declared.MarketAnswer.{MarketAnswer}
+use Rattle.station_rules.specs.declared.MarketAnswer.the-variants.{Certified, Refused}
+use Rattle.market_scan.specs.Scans.{pickedOf}
+use Rattle.market_certificate.specs.Certified.{answerBy, certifiedOf}
 use Rattle.market.specs.Answers.{valuedOf, testedOf, answeredOf}
-use Rattle.scans.specs.declared.Picked.the-variants.{Value, Wrong}
-use Rattle.scans.proofs.ScanLaws.{picked-value, picked-wrong}
+use Rattle.market_scan.specs.declared.Picked.the-variants.{Value, Wrong}
+use Rattle.market_scan.proofs.ScanLaws.{picked-value, picked-wrong}
 
 -- ---- numbers 10 and 11
 

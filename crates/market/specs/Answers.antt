@@ -3,17 +3,17 @@ use mathlib.Core.Bool.{not}
 use mathlib.Core.List.{_∷_}
 use Prim.Native.Nat.{ℕ}
 use lib.IntN.{ℤ}
-use Rattle.rules.specs.Refusals.{firstNumber}
-use Rattle.rules.specs.Lines.{Values}
-use Rattle.rules.specs.Markets.{within, marketChecks, certificateOf}
-use Rattle.rules.specs.Judging.{marketNumbers}
-use Rattle.rules.specs.Soundness.{soundCheck}
-use Rattle.rules.specs.Stations.{valuesOf}
-use Rattle.rules.specs.declared.Scan.{Scan}
-use Rattle.rules.specs.declared.Basis.{Basis}
-use Rattle.rules.specs.Held.{Station}
-use Rattle.rules.specs.declared.MarketAnswer.{MarketAnswer}
-use Rattle.certificates.specs.Certified.{answerBy, certificateBy, lastChecks}
+use Rattle.station_rules.specs.Refusals.{firstNumber}
+use Rattle.station_rules.specs.Lines.{Values}
+use Rattle.station_rules.specs.Markets.{within, marketChecks, certificateOf}
+use Rattle.station_rules.specs.Judging.{marketNumbers}
+use Rattle.station_rules.specs.Soundness.{soundCheck}
+use Rattle.station_rules.specs.Stations.{valuesOf}
+use Rattle.station_rules.specs.declared.Scan.{Scan}
+use Rattle.station_rules.specs.declared.Basis.{Basis}
+use Rattle.station_rules.specs.Held.{Station}
+use Rattle.station_rules.specs.declared.MarketAnswer.{MarketAnswer}
+use Rattle.market_certificate.specs.Certified.{answerBy, certificateBy, lastChecks}
 
 -- numbers 10 to 14
 unfoldable pub valuedOf : ℕ → Values → ℕ → ℤ → ℤ → MarketAnswer

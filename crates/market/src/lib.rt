@@ -1,22 +1,22 @@
 // Market tests (paper 01, "Market test and moisture basis"): their numbers in order, and the call on a station in its caller's
 // places.
+use market_scan::Picked;
 use reading::Reading;
-use rules::Basis;
-use rules::Line;
-use rules::MarketAnswer;
-use rules::Refusal;
-use rules::Scan;
-use scans::Picked;
+use station_rules::Basis;
+use station_rules::Line;
+use station_rules::MarketAnswer;
+use station_rules::Refusal;
+use station_rules::Scan;
 use whole::Int;
 ghost use mathlib.Core.Path.{_≡_};
 ghost use Prim.Native.Nat.{_≤_};
 ghost use lib.IntN.{pos, _+ℤ_};
-ghost use Rattle.rules.specs.Rows.{standardBasis};
-ghost use Rattle.rules.specs.Held.{lineValues};
-ghost use Rattle.rules.specs.Markets.{basisOf};
-ghost use Rattle.rules.specs.Places.{stationIn};
-ghost use Rattle.rules.specs.InPlace.{marketIn};
-ghost use Rattle.lines.specs.Ranges.{LineFits};
+ghost use Rattle.station_rules.specs.Rows.{standardBasis};
+ghost use Rattle.station_rules.specs.Held.{lineValues};
+ghost use Rattle.station_rules.specs.Markets.{basisOf};
+ghost use Rattle.station_rules.specs.Places.{stationIn};
+ghost use Rattle.station_rules.specs.InPlace.{marketIn};
+ghost use Rattle.line.specs.Ranges.{LineFits};
 ghost use Rattle.market.specs.Answers.{valuedOf, testedOf, answeredOf};
 
 // Numbers 10 to 14, of a reading n.
@@ -24,16 +24,16 @@ fn judge_reading(row: u32, l: Line, day: u32, n: u32, basis: Basis) -> MarketAns
     requires { ⌜ (n ≤ 10000) × (LineFits l) ⌝ }
     ensures { λ r. ⌜ r ≡ valuedOf (standardBasis row) (lineValues l) day (basisOf (standardBasis row) basis) (pos n +ℤ l .intercept) ⌝ }
 {
-    let a = rows::standard_basis(row);
-    let b = figures::basis_value(a, basis);
-    if !figures::up_to(5000, b) {
+    let a = row_table::standard_basis(row);
+    let b = market_figures::basis_value(a, basis);
+    if !market_figures::up_to(5000, b) {
         return MarketAnswer::Refused(Refusal::BadBasis);
     }
     let h = whole::add(whole::of_u32(n), Int { z: l.intercept });
-    if !figures::up_to(10000, h) {
+    if !market_figures::up_to(10000, h) {
         return MarketAnswer::Refused(Refusal::BadValue);
     }
-    certificates::certify(a, l, day, b, h)
+    market_certificate::certify(a, l, day, b, h)
 }
 
 // Numbers 8 to 14.
@@ -41,7 +41,7 @@ fn judge_scan(row: u32, l: Line, day: u32, line: usize, scan: Scan, basis: Basis
     requires { ⌜ LineFits l ⌝ }
     ensures { λ r. ⌜ r ≡ testedOf row (lineValues l) day line scan basis ⌝ }
 {
-    match scans::pick(row, scan, line) {
+    match market_scan::pick(row, scan, line) {
         Picked::Wrong => MarketAnswer::Refused(Refusal::WrongScan),
         Picked::Value(x) => match reading::reading(x) {
             Reading::Refused => MarketAnswer::Refused(Refusal::BadFloat),
@@ -54,14 +54,14 @@ fn judge_scan(row: u32, l: Line, day: u32, line: usize, scan: Scan, basis: Basis
 fn answer(state: &[i32], day: u32, line: usize, scan: Scan, basis: Basis) -> MarketAnswer
     ensures { λ r. ⌜ r ≡ answeredOf (stationIn (now (state .entry))) day line scan basis ⌝ }
 {
-    if !soundness::is_sound(state) {
+    if !station_soundness::is_sound(state) {
         return MarketAnswer::Refused(Refusal::UnsoundStation);
     }
-    if soundness::is_bad_day(station_places::day_of(state), day) {
+    if station_soundness::is_bad_day(station_places::day_of(state), day) {
         return MarketAnswer::Refused(Refusal::BadDay);
     }
     let row = station_places::row_of(state);
-    if rows::line_count(row) <= line {
+    if row_table::line_count(row) <= line {
         return MarketAnswer::Refused(Refusal::UnknownLine);
     }
     let l = station_places::line_of(state, line);

@@ -7,10 +7,10 @@ use lib.IntN.{ℤ}
 use lib.ListN.{length}
 use borrow.Author.Tests.{eq-eqb, ne-eqb}
 use Rattle.whole.specs.Lists.{any}
-use Rattle.rules.specs.Sheets.{samplesOf, wrongNumber, wrongThird, wrongAgain, againRound, keptSamples, setOf, sheetChecks}
-use Rattle.rules.specs.declared.Limits.{Limits}
-use Rattle.rules.specs.declared.Set.{Set}
-use Rattle.rules.specs.declared.Refusal.the-variants.{SheetSize, SheetNumber, ThirdReading, AgainPair}
+use Rattle.station_rules.specs.Sheets.{samplesOf, wrongNumber, wrongThird, wrongAgain, againRound, keptSamples, setOf, sheetChecks}
+use Rattle.station_rules.specs.declared.Limits.{Limits}
+use Rattle.station_rules.specs.declared.Set.{Set}
+use Rattle.station_rules.specs.declared.Refusal.the-variants.{SheetSize, SheetNumber, ThirdReading, AgainPair}
 use Rattle.sheet.specs.Totals.{totals}
 use Rattle.sheet.specs.Judged.{judgedOf}
 use Rattle.sheet.specs.declared.answer.Judged.the-variants.{Counted, Refused}

@@ -9,10 +9,10 @@ use lib.ListN.{length}
 use Rattle.whole.specs.Lists.{total}
 use Rattle.whole.proofs.Fold.{fold}
 use Rattle.whole.proofs.ListLaws.{cond-yes, cond-no}
-use Rattle.rules.specs.Lists.{keep}
-use Rattle.rules.specs.Sheets.{Sample, finalDeviation, kept}
-use Rattle.rules.specs.declared.Limits.{Limits}
-use Rattle.rules.specs.declared.Set.{Set}
+use Rattle.station_rules.specs.Lists.{keep}
+use Rattle.station_rules.specs.Sheets.{Sample, finalDeviation, kept}
+use Rattle.station_rules.specs.declared.Limits.{Limits}
+use Rattle.station_rules.specs.declared.Set.{Set}
 use Rattle.sheet.specs.Totals.{tallied, totals}
 
 abbrev pub none : Set

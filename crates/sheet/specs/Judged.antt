@@ -3,10 +3,10 @@ use mathlib.Core.List.{List}
 use mathlib.Core.Option.{Option, none, some}
 use Prim.Native.Nat.{ℕ}
 use lib.IntN.{ℤ}
-use Rattle.rules.specs.Refusals.{firstNumber, refusalOf}
-use Rattle.rules.specs.Sheets.{setOf, sheetChecks}
-use Rattle.rules.specs.declared.Limits.{Limits}
-use Rattle.rules.specs.declared.Set.{Set}
+use Rattle.station_rules.specs.Refusals.{firstNumber, refusalOf}
+use Rattle.station_rules.specs.Sheets.{setOf, sheetChecks}
+use Rattle.station_rules.specs.declared.Limits.{Limits}
+use Rattle.station_rules.specs.declared.Set.{Set}
 use Rattle.sheet.specs.declared.answer.Judged.{Judged}
 use Rattle.sheet.specs.declared.answer.Judged.the-variants.{Counted, Refused}
 

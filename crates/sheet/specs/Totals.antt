@@ -7,10 +7,10 @@ use lib.IntN.{ℤ, _+ℤ_}
 use lib.ListN.{length}
 use Rattle.whole.specs.Parts.{up, down}
 use Rattle.whole.specs.Lists.{total}
-use Rattle.rules.specs.Lists.{keep}
-use Rattle.rules.specs.Sheets.{Sample, finalDeviation, kept}
-use Rattle.rules.specs.declared.Limits.{Limits}
-use Rattle.rules.specs.declared.Set.{Set}
+use Rattle.station_rules.specs.Lists.{keep}
+use Rattle.station_rules.specs.Sheets.{Sample, finalDeviation, kept}
+use Rattle.station_rules.specs.declared.Limits.{Limits}
+use Rattle.station_rules.specs.declared.Set.{Set}
 use Rattle.sheet.specs.declared.totals.Tally.{Tally}
 
 -- S and N so far

@@ -3,12 +3,12 @@ mod answer;
 mod totals;
 
 pub use answer::Judged;
-use rules::Limits;
-use rules::Refusal;
+use station_rules::Limits;
+use station_rules::Refusal;
 use whole::Int;
 ghost use mathlib.Core.Path.{_≡_};
 ghost use Prim.Native.Nat.{_≤_};
-ghost use Rattle.numbers.specs.Samples.{Fair};
+ghost use Rattle.sheet_numbers.specs.Samples.{Fair};
 ghost use Rattle.sheet.specs.Judged.{judgedOf};
 
 pub fn judge(limits: Limits, intercept: Int, samples: usize, numbers: &[i32]) -> Judged

@@ -1,14 +1,14 @@
 // Rule 4: S and N, one pass over the samples.
-use numbers::SixNumbers;
-use rules::Limits;
-use rules::Set;
+use sheet_numbers::SixNumbers;
+use station_rules::Limits;
+use station_rules::Set;
 use whole::Int;
 ghost use mathlib.Core.Path.{_≡_};
 ghost use Prim.Native.Nat.{_≤_};
 ghost use Rattle.whole.specs.Parts.{Within};
-ghost use Rattle.rules.specs.Sheets.{samplesOf};
-ghost use Rattle.numbers.specs.Samples.{sampleOf, Measured, Fair};
-ghost use Rattle.numbers.specs.Sheet.{Sheet};
+ghost use Rattle.station_rules.specs.Sheets.{samplesOf};
+ghost use Rattle.sheet_numbers.specs.Samples.{sampleOf, Measured, Fair};
+ghost use Rattle.sheet_numbers.specs.Sheet.{Sheet};
 ghost use Rattle.sheet.specs.Totals.{Counted, totals};
 
 // S and N so far.
@@ -23,8 +23,8 @@ fn add_sample(limits: Limits, intercept: Int, round: bool, t: Tally, s: SixNumbe
     requires { ⌜ (Within 25000000 25000000 (t .sum .z)) × (t .count ≤ 2000) ⌝ }
     ensures { λ r. ⌜ Counted limits (intercept .z) round t (sampleOf s) r ⌝ }
 {
-    if sample::is_kept(limits, intercept, round, s) {
-        let d = sample::final_deviation(limits, intercept, round, s);
+    if sheet_sample::is_kept(limits, intercept, round, s) {
+        let d = sheet_sample::final_deviation(limits, intercept, round, s);
         Tally {
             sum: whole::add(t.sum, d),
             count: t.count + 2,
@@ -51,7 +51,7 @@ pub(crate) fn counted(
     };
     let mut i = 0;
     while i < samples {
-        let s = numbers::sample_at(numbers, i, samples);
+        let s = sheet_numbers::sample_at(numbers, i, samples);
         t = add_sample(limits, intercept, round, t, s);
         i += 1;
     }

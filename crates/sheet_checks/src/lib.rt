@@ -1,14 +1,14 @@
 // Numbers 5 to 7 over a whole sheet (paper 01, "The reference sheet"), each one pass over the samples.
-use rules::Limits;
+use station_rules::Limits;
 use whole::Int;
 use whole::flags;
 ghost use mathlib.Core.Path.{_≡_};
 ghost use Prim.Native.Nat.{_*_, _≤_};
 ghost use lib.ListN.{length};
 ghost use Rattle.whole.specs.Lists.{any};
-ghost use Rattle.rules.specs.Sheets.{samplesOf, wrongNumber, wrongThird, wrongAgain};
-ghost use Rattle.numbers.specs.Samples.{Fair};
-ghost use Rattle.numbers.specs.Sheet.{Sheet};
+ghost use Rattle.station_rules.specs.Sheets.{samplesOf, wrongNumber, wrongThird, wrongAgain};
+ghost use Rattle.sheet_numbers.specs.Samples.{Fair};
+ghost use Rattle.sheet_numbers.specs.Sheet.{Sheet};
 
 // Number 5.
 pub fn any_wrong_number(numbers: &[i32], samples: usize) -> bool
@@ -18,8 +18,8 @@ pub fn any_wrong_number(numbers: &[i32], samples: usize) -> bool
     let mut found = false;
     let mut i = 0;
     while i < samples {
-        let s = numbers::sample_at(numbers, i, samples);
-        found = flags::either(found, numbers::wrong_number(s));
+        let s = sheet_numbers::sample_at(numbers, i, samples);
+        found = flags::either(found, sheet_numbers::wrong_number(s));
         i += 1;
     }
     found
@@ -33,8 +33,8 @@ pub fn any_wrong_third(limits: Limits, numbers: &[i32], samples: usize) -> bool
     let mut found = false;
     let mut i = 0;
     while i < samples {
-        let s = numbers::sample_at(numbers, i, samples);
-        found = flags::either(found, sample::wrong_third(limits, s));
+        let s = sheet_numbers::sample_at(numbers, i, samples);
+        found = flags::either(found, sheet_sample::wrong_third(limits, s));
         i += 1;
     }
     found
@@ -54,8 +54,11 @@ pub fn any_wrong_again(
     let mut found = false;
     let mut i = 0;
     while i < samples {
-        let s = numbers::sample_at(numbers, i, samples);
-        found = flags::either(found, sample::wrong_again(limits, intercept, round, s));
+        let s = sheet_numbers::sample_at(numbers, i, samples);
+        found = flags::either(
+            found,
+            sheet_sample::wrong_again(limits, intercept, round, s),
+        );
         i += 1;
     }
     found

@@ -5,7 +5,7 @@ use Prim.Native.Nat.{_*_}
 use lib.IntN.{ℤ, pos, _-ℤ_}
 use lib.Signed.{ltZ}
 use Rattle.whole.specs.Lists.{largest, smallest}
-use Rattle.rules.specs.declared.Limits.{Limits}
+use Rattle.station_rules.specs.declared.Limits.{Limits}
 
 -- the largest minus the smallest deviation is above twice the range limit
 abbrev pub wide : Limits → List ℤ → Bool

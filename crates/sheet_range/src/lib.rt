@@ -1,14 +1,14 @@
 // Rule 3 over a whole sheet (paper 01, "The reference sheet"): the range of the deviations, and whether again pairs are due.
-use rules::Limits;
+use station_rules::Limits;
 use whole::Int;
 use whole::flags;
 ghost use mathlib.Core.Path.{_≡_};
 ghost use mathlib.Core.List.{map};
 ghost use Rattle.whole.specs.Parts.{Within};
 ghost use Rattle.whole.specs.Lists.{any, largest, smallest};
-ghost use Rattle.rules.specs.Sheets.{samplesOf, deviates, firstDeviation, againRound};
-ghost use Rattle.numbers.specs.Samples.{Fair};
-ghost use Rattle.numbers.specs.Sheet.{Sheet};
+ghost use Rattle.station_rules.specs.Sheets.{samplesOf, deviates, firstDeviation, againRound};
+ghost use Rattle.sheet_numbers.specs.Samples.{Fair};
+ghost use Rattle.sheet_numbers.specs.Sheet.{Sheet};
 ghost use Rattle.sheet_range.specs.Range.{wide};
 
 // Some sample deviates.
@@ -19,8 +19,8 @@ fn any_deviates(limits: Limits, intercept: Int, numbers: &[i32], samples: usize)
     let mut found = false;
     let mut i = 0;
     while i < samples {
-        let s = numbers::sample_at(numbers, i, samples);
-        found = flags::either(found, sample::first_deviates(limits, intercept, s));
+        let s = sheet_numbers::sample_at(numbers, i, samples);
+        found = flags::either(found, sheet_sample::first_deviates(limits, intercept, s));
         i += 1;
     }
     found
@@ -31,15 +31,15 @@ fn highest(limits: Limits, intercept: Int, numbers: &[i32], samples: usize) -> I
     requires { ⌜ Fair limits (intercept .z) × Sheet samples (now numbers) ⌝ }
     ensures { λ r. ⌜ (r .z ≡ largest (map (firstDeviation limits (intercept .z)) (samplesOf (now (numbers .entry))))) × Within 25000 25000 (r .z) ⌝ }
 {
-    let mut high = sample::first_deviation(
+    let mut high = sheet_sample::first_deviation(
         limits,
         intercept,
-        numbers::sample_at(numbers, 0, samples),
+        sheet_numbers::sample_at(numbers, 0, samples),
     );
     let mut i = 0;
     while i < samples {
-        let s = numbers::sample_at(numbers, i, samples);
-        high = whole::larger(high, sample::first_deviation(limits, intercept, s));
+        let s = sheet_numbers::sample_at(numbers, i, samples);
+        high = whole::larger(high, sheet_sample::first_deviation(limits, intercept, s));
         i += 1;
     }
     high
@@ -50,15 +50,15 @@ fn lowest(limits: Limits, intercept: Int, numbers: &[i32], samples: usize) -> In
     requires { ⌜ Fair limits (intercept .z) × Sheet samples (now numbers) ⌝ }
     ensures { λ r. ⌜ (r .z ≡ smallest (map (firstDeviation limits (intercept .z)) (samplesOf (now (numbers .entry))))) × Within 25000 25000 (r .z) ⌝ }
 {
-    let mut low = sample::first_deviation(
+    let mut low = sheet_sample::first_deviation(
         limits,
         intercept,
-        numbers::sample_at(numbers, 0, samples),
+        sheet_numbers::sample_at(numbers, 0, samples),
     );
     let mut i = 0;
     while i < samples {
-        let s = numbers::sample_at(numbers, i, samples);
-        low = whole::smaller(low, sample::first_deviation(limits, intercept, s));
+        let s = sheet_numbers::sample_at(numbers, i, samples);
+        low = whole::smaller(low, sheet_sample::first_deviation(limits, intercept, s));
         i += 1;
     }
     low

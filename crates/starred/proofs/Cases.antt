@@ -3,25 +3,25 @@ use mathlib.Core.Path.{_≡_, refl}
 use mathlib.Core.List.{map}
 use lib.Ieee.{ofBits}
 use Rattle.reading.specs.Reading.{unitsOf, inRange, readingOf, answerOf}
-use Rattle.rules.specs.Rows.{rowOf, samples, standardBasis, lineCount, limitsOf}
-use Rattle.rules.specs.Readings.{scanFits, lineFloat}
-use Rattle.rules.specs.Sheets.{samplesOf, wrongNumber, spread, closer, closestPair, thirdDue, usedPair, firstDeviation, againRound, finalDeviation, keptSamples, setOf, sheetChecks}
-use Rattle.rules.specs.Lines.{validOn, sameSide, averagesDue, testsBy, roundedAverage, verdictOf}
-use Rattle.rules.specs.Markets.{correctedValue, tooHigh, tenths, tenthsAt, marketChecks, certificateOf}
-use Rattle.rules.specs.Judging.{sheetNumbers, marketNumbers, sheetSet, sheetVerdict}
-use Rattle.rules.specs.Soundness.{soundLine, sound}
-use Rattle.rules.specs.Stations.{sheetStation, outcomeOf, sheetOf, marketOf}
+use Rattle.station_rules.specs.Rows.{rowOf, samples, standardBasis, lineCount, limitsOf}
+use Rattle.station_rules.specs.Readings.{scanFits, lineFloat}
+use Rattle.station_rules.specs.Sheets.{samplesOf, wrongNumber, spread, closer, closestPair, thirdDue, usedPair, firstDeviation, againRound, finalDeviation, keptSamples, setOf, sheetChecks}
+use Rattle.station_rules.specs.Lines.{validOn, sameSide, averagesDue, testsBy, roundedAverage, verdictOf}
+use Rattle.station_rules.specs.Markets.{correctedValue, tooHigh, tenths, tenthsAt, marketChecks, certificateOf}
+use Rattle.station_rules.specs.Judging.{sheetNumbers, marketNumbers, sheetSet, sheetVerdict}
+use Rattle.station_rules.specs.Soundness.{soundLine, sound}
+use Rattle.station_rules.specs.Stations.{sheetStation, outcomeOf, sheetOf, marketOf}
 use Rattle.chart_bounds.specs.Bounds.{badWeek, badSize, outside, badResult}
 use Rattle.chart_sets.specs.Sets.{setOf as chartSetOf}
 use Rattle.chart_sets.specs.Soundness.{soundSet}
-use Rattle.chart_rules.specs.Rows as chartRows
-use Rattle.chart_rules.specs.Rules.{absolute, atOrAbove, atOrBelow, tolerance, rangeTolerance}
+use Rattle.chart_limits.specs.Rows as chartRows
+use Rattle.chart_limits.specs.Rules.{absolute, atOrAbove, atOrBelow, tolerance, rangeTolerance}
 use Rattle.chart_run.specs.Run.{above, below, oneSide, sixtieths, runBy, run}
 use Rattle.chart_state.specs.Charts.{sound as soundChart, nextChart}
 use Rattle.chart_line.specs.Lines.{valuesOf}
 use Rattle.chart_refusals.specs.Checks.{refusalOf}
 use Rattle.chart.specs.Calls.{decided, accepted, resultOf}
-use Rattle.rules.specs.Cases.{Case}
+use Rattle.station_rules.specs.Cases.{Case}
 use Rattle.starred.specs.Cases.{starred}
 
 pub starred-hold : map (λ (c : Case). c .gives) starred ≡ map (λ (c : Case). c .says) starred

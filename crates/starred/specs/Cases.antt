@@ -3,9 +3,9 @@ use mathlib.Core.List.{List, [], _∷_}
 use lib.ListN.{replicate}
 use lib.IntN.{ℤ, pos, negsuc}
 use Rattle.reading.specs.Reading.{hundredths}
-use Rattle.rules.specs.Lines.{newLine, openLine, checkDueLine}
-use Rattle.rules.specs.Replies.{refusedBy, outcome, certificate}
-use Rattle.rules.specs.Cases.{Seen, read, sheet, market, charted, Case, readOf, again, results, deviations, twoDeviations, dryOn}
+use Rattle.station_rules.specs.Lines.{newLine, openLine, checkDueLine}
+use Rattle.station_rules.specs.Replies.{refusedBy, outcome, certificate}
+use Rattle.station_rules.specs.Cases.{Seen, read, sheet, market, charted, Case, readOf, again, results, deviations, twoDeviations, dryOn}
 use Rattle.chart.specs.Cases.{averages}
 
 -- the last of sets with these sums, n 5, in weeks 1, 2, .. of a fresh wheat chart

@@ -4,15 +4,15 @@ use mathlib.Core.Bool.{true, false}
 use mathlib.Core.List.{List}
 use Prim.Native.Nat.{ℕ}
 use lib.IntN.{ℤ}
-use Rattle.rules.specs.Rows.{rowExists}
-use Rattle.rules.specs.Judging.{dayCheck}
-use Rattle.rules.specs.Soundness.{sound}
-use Rattle.rules.specs.Stations.{openOf, repairOf}
-use Rattle.rules.specs.Places.{stationIn}
-use Rattle.rules.specs.InPlace.{Left, openedStation, openIn, repairPlaces, repairIn}
-use Rattle.rules.specs.declared.Refusal.the-variants.{UnsoundStation, UnknownRow, BadDay}
-use Rattle.rules.specs.declared.OpenAnswer.{OpenAnswer}
-use Rattle.rules.specs.declared.RepairAnswer.{RepairAnswer}
+use Rattle.station_rules.specs.Rows.{rowExists}
+use Rattle.station_rules.specs.Judging.{dayCheck}
+use Rattle.station_rules.specs.Soundness.{sound}
+use Rattle.station_rules.specs.Stations.{openOf, repairOf}
+use Rattle.station_rules.specs.Places.{stationIn}
+use Rattle.station_rules.specs.InPlace.{Left, openedStation, openIn, repairPlaces, repairIn}
+use Rattle.station_rules.specs.declared.Refusal.the-variants.{UnsoundStation, UnknownRow, BadDay}
+use Rattle.station_rules.specs.declared.OpenAnswer.{OpenAnswer}
+use Rattle.station_rules.specs.declared.RepairAnswer.{RepairAnswer}
 
 module _ (row : ℕ) where
   pub open-none : rowExists row ≡ false → _≡_ {A = Left OpenAnswer} (record { answer = OpenAnswer.Refused UnknownRow; places = openedStation 0 }) (openIn row)

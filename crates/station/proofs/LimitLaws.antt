@@ -4,11 +4,11 @@ use Prim.Native.Nat.{ℕ, _<_}
 use lib.IntN.{ℤ}
 use Rattle.whole.specs.Parts.{Within}
 use Rattle.whole.proofs.Read.{rd, back-in}
-use Rattle.rules.specs.Rows.{lineCount, limitsOf}
-use Rattle.rules.proofs.RowFacts.{row-facts}
-use Rattle.rules.specs.declared.Limits.{Limits}
-use Rattle.numbers.specs.Samples.{Fair}
-use Rattle.averages.specs.Ranges.{Limited}
+use Rattle.station_rules.specs.Rows.{lineCount, limitsOf}
+use Rattle.station_rules.proofs.RowFacts.{row-facts}
+use Rattle.station_rules.specs.declared.Limits.{Limits}
+use Rattle.sheet_numbers.specs.Samples.{Fair}
+use Rattle.line_averages.specs.Ranges.{Limited}
 
 module _ (row line : ℕ) (here : line < lineCount row) where
   -- with an intercept that the station holds

@@ -8,29 +8,29 @@ use native.Mathlib.Omega.{arith}
 use lib.Dec.{ltb}
 use lib.IntN.{ℤ, natAbs}
 use borrow.Author.Tests.{lt-ltb, le-ltb, ltb-false}
-use Rattle.rules.specs.Rows.{samples, lineCount, limitsOf}
-use Rattle.rules.specs.Refusals.{firstNumber}
-use Rattle.rules.specs.Sheets.{sheetChecks, setOf}
-use Rattle.rules.specs.Judging.{dayCheck, sheetNumbers, sheetSet, sheetVerdict}
-use Rattle.rules.specs.Soundness.{sound}
-use Rattle.rules.specs.Places.{stationIn}
-use Rattle.rules.specs.InPlace.{Left, sheetPlaces, sheetLeft, sheetIn}
-use Rattle.rules.specs.Stations.{valuesOf, sheetStation, outcomeOf, sheetResult, sheetOf}
-use Rattle.rules.proofs.SheetBounds.{set-bounded}
-use Rattle.rules.proofs.RowFacts.{row-facts}
+use Rattle.station_rules.specs.Rows.{samples, lineCount, limitsOf}
+use Rattle.station_rules.specs.Refusals.{firstNumber}
+use Rattle.station_rules.specs.Sheets.{sheetChecks, setOf}
+use Rattle.station_rules.specs.Judging.{dayCheck, sheetNumbers, sheetSet, sheetVerdict}
+use Rattle.station_rules.specs.Soundness.{sound}
+use Rattle.station_rules.specs.Places.{stationIn}
+use Rattle.station_rules.specs.InPlace.{Left, sheetPlaces, sheetLeft, sheetIn}
+use Rattle.station_rules.specs.Stations.{valuesOf, sheetStation, outcomeOf, sheetResult, sheetOf}
+use Rattle.station_rules.proofs.SheetBounds.{set-bounded}
+use Rattle.station_rules.proofs.RowFacts.{row-facts}
 use Rattle.whole.proofs.Tests.{or-none}
 use Rattle.whole.proofs.PartLaws.{sizeParts, either}
-use Rattle.rules.specs.declared.Limits.{Limits}
-use Rattle.rules.specs.declared.Set.{Set}
-use Rattle.rules.specs.Held.{Station}
-use Rattle.rules.specs.declared.Refusal.{Refusal}
-use Rattle.rules.specs.declared.Refusal.the-variants.{UnsoundStation, BadDay, UnknownLine}
-use Rattle.rules.specs.declared.SheetAnswer.{SheetAnswer}
+use Rattle.station_rules.specs.declared.Limits.{Limits}
+use Rattle.station_rules.specs.declared.Set.{Set}
+use Rattle.station_rules.specs.Held.{Station}
+use Rattle.station_rules.specs.declared.Refusal.{Refusal}
+use Rattle.station_rules.specs.declared.Refusal.the-variants.{UnsoundStation, BadDay, UnknownLine}
+use Rattle.station_rules.specs.declared.SheetAnswer.{SheetAnswer}
 use Rattle.sheet.specs.Judged.{judgedBy, judgedOf}
 use Rattle.sheet.specs.declared.answer.Judged.{Judged}
 use Rattle.sheet.specs.declared.answer.Judged.the-variants.{Counted, Refused}
-use Rattle.past_sets.specs.Ranges.{SetsOf}
-use Rattle.soundness.proofs.FitsLaws.{size-within, line-fits}
+use Rattle.line_past.specs.Ranges.{SetsOf}
+use Rattle.station_soundness.proofs.FitsLaws.{size-within, line-fits}
 use Rattle.station.specs.Accepted.{acceptedIn, sheetBy, Ruled}
 
 abbrev pub refusedSheet : List ℤ → Refusal → Left SheetAnswer

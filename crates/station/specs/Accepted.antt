@@ -4,18 +4,18 @@ use mathlib.Core.Bool.{true}
 use mathlib.Core.List.{List}
 use Prim.Native.Nat.{ℕ, _<_, _≤_}
 use lib.IntN.{ℤ}
-use Rattle.rules.specs.Rows.{lineCount, limitsOf}
-use Rattle.rules.specs.Lines.{pastSet, verdictOf}
-use Rattle.rules.specs.Held.{phaseHeld}
-use Rattle.rules.specs.Soundness.{sound}
-use Rattle.rules.specs.Stations.{valuesOf}
-use Rattle.rules.specs.Places.{linePlaces, stationIn}
-use Rattle.rules.specs.InPlace.{Left, sheetLine, withDay, withLine, sheetIn}
-use Rattle.rules.specs.declared.Set.{Set}
-use Rattle.rules.specs.declared.SheetAnswer.{SheetAnswer}
+use Rattle.station_rules.specs.Rows.{lineCount, limitsOf}
+use Rattle.station_rules.specs.Lines.{pastSet, verdictOf}
+use Rattle.station_rules.specs.Held.{phaseHeld}
+use Rattle.station_rules.specs.Soundness.{sound}
+use Rattle.station_rules.specs.Stations.{valuesOf}
+use Rattle.station_rules.specs.Places.{linePlaces, stationIn}
+use Rattle.station_rules.specs.InPlace.{Left, sheetLine, withDay, withLine, sheetIn}
+use Rattle.station_rules.specs.declared.Set.{Set}
+use Rattle.station_rules.specs.declared.SheetAnswer.{SheetAnswer}
 use Rattle.sheet.specs.declared.answer.Judged.{Judged}
 use Rattle.sheet.specs.declared.answer.Judged.the-variants.{Counted, Refused}
-use Rattle.past_sets.specs.Ranges.{SetsOf}
+use Rattle.line_past.specs.Ranges.{SetsOf}
 
 -- what an accepted sheet with these S and N leaves: its outcome, the day, and its line's places
 unfoldable pub acceptedIn : List ℤ → ℕ → ℕ → Set → Left SheetAnswer

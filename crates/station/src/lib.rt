@@ -1,18 +1,18 @@
 // A station's calls: opening, sheet and repair (paper 01), on the station in its caller's places. Judged first, written last: a refused call writes
 // nothing, but for a refused opening, which leaves a fresh station of row 0.
-use rules::OpenAnswer;
-use rules::Outcome;
-use rules::PastSet;
-use rules::Refusal;
-use rules::RepairAnswer;
-use rules::Set;
-use rules::SheetAnswer;
 use sheet::Judged;
+use station_rules::OpenAnswer;
+use station_rules::Outcome;
+use station_rules::PastSet;
+use station_rules::Refusal;
+use station_rules::RepairAnswer;
+use station_rules::Set;
+use station_rules::SheetAnswer;
 use whole::Int;
 use whole::places;
 ghost use mathlib.Core.Path.{_≡_};
-ghost use Rattle.rules.specs.InPlace.{openIn, sheetIn, repairIn};
-ghost use Rattle.rules.specs.declared.SheetAnswer.{SheetAnswer};
+ghost use Rattle.station_rules.specs.InPlace.{openIn, sheetIn, repairIn};
+ghost use Rattle.station_rules.specs.declared.SheetAnswer.{SheetAnswer};
 ghost use Rattle.station.specs.Accepted.{acceptedIn, Acceptable, Ruled};
 
 // ---- opening
@@ -23,7 +23,7 @@ pub fn open(state: &mut [i32; 47], row: usize) -> OpenAnswer
 {
     let zeros = [0; 47];
     *state = zeros;
-    if !rows::row_exists(row) {
+    if !row_table::row_exists(row) {
         return OpenAnswer::Refused(Refusal::UnknownRow);
     }
     places::put(state, 0, whole::of_u32(row as u32));
@@ -36,19 +36,19 @@ pub fn open(state: &mut [i32; 47], row: usize) -> OpenAnswer
 fn judge(state: &[i32], day: u32, line: usize, numbers: &[i32]) -> Judged
     ensures { λ r. ⌜ Ruled (now (state .entry)) day line (now (numbers .entry)) r ⌝ }
 {
-    if !soundness::is_sound(state) {
+    if !station_soundness::is_sound(state) {
         return Judged::Refused(Refusal::UnsoundStation);
     }
-    if soundness::is_bad_day(station_places::day_of(state), day) {
+    if station_soundness::is_bad_day(station_places::day_of(state), day) {
         return Judged::Refused(Refusal::BadDay);
     }
     let row = station_places::row_of(state);
-    if rows::line_count(row) <= line {
+    if row_table::line_count(row) <= line {
         return Judged::Refused(Refusal::UnknownLine);
     }
     let l = station_places::line_of(state, line);
-    let limits = rows::limits_of(row, line);
-    let samples = rows::sample_count(row) as usize;
+    let limits = row_table::limits_of(row, line);
+    let samples = row_table::sample_count(row) as usize;
     sheet::judge(limits, Int { z: l.intercept }, samples, numbers)
 }
 
@@ -58,8 +58,8 @@ fn accept(state: &mut [i32], day: u32, line: usize, set: Set) -> Outcome
     ensures { λ r. ⌜ record { answer = SheetAnswer.Accepted r; places = now (state .exit) } ≡ acceptedIn (now (state .entry)) day line set ⌝ }
 {
     let l = station_places::line_of(state, line);
-    let limits = rows::limits_of(station_places::row_of(state), line);
-    let v = verdicts::verdict_on(limits, l, day, set);
+    let limits = row_table::limits_of(station_places::row_of(state), line);
+    let v = line_verdict::verdict_on(limits, l, day, set);
     let p = PastSet {
         day,
         sum: set.sum,
@@ -70,7 +70,7 @@ fn accept(state: &mut [i32], day: u32, line: usize, set: Set) -> Outcome
     Outcome {
         sum: set.sum,
         count: set.count,
-        phase: lines::phase_after(v),
+        phase: line::phase_after(v),
         change: v.change,
     }
 }
@@ -89,10 +89,10 @@ pub fn sheet(state: &mut [i32], day: u32, line: usize, numbers: &[i32]) -> Sheet
 pub fn repair(state: &mut [i32], day: u32) -> RepairAnswer
     ensures { λ r. ⌜ record { answer = r; places = now (state .exit) } ≡ repairIn (now (state .entry)) day ⌝ }
 {
-    if !soundness::is_sound(state) {
+    if !station_soundness::is_sound(state) {
         return RepairAnswer::Refused(Refusal::UnsoundStation);
     }
-    if soundness::is_bad_day(station_places::day_of(state), day) {
+    if station_soundness::is_bad_day(station_places::day_of(state), day) {
         return RepairAnswer::Refused(Refusal::BadDay);
     }
     station_places::repair_line(state, 0);

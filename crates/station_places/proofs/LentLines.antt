@@ -7,11 +7,11 @@ use lib.IntN.{ℤ}
 use lib.ListN.{take}
 use borrow.Rule.Slice.PartMut.{putMid, post-is}
 use Rattle.whole.specs.Places.{place}
-use Rattle.rules.specs.Places.{lineIn, lineStart, linePlaces, stationIn}
-use Rattle.rules.specs.Stations.{lineOf}
-use Rattle.rules.specs.InPlace.{withLine}
-use Rattle.rules.specs.declared.Line.{Line}
-use Rattle.rules.proofs.InPlace.{line-there}
+use Rattle.station_rules.specs.Places.{lineIn, lineStart, linePlaces, stationIn}
+use Rattle.station_rules.specs.Stations.{lineOf}
+use Rattle.station_rules.specs.InPlace.{withLine}
+use Rattle.station_rules.specs.declared.Line.{Line}
+use Rattle.station_rules.proofs.InPlace.{line-there}
 
 pub fifteen : (at : ℕ) → (at + 15) - at ≡ 15
 fifteen at = omega arith

@@ -1,16 +1,16 @@
 // A station in its 47 places: what is read there, and what an accepted call writes.
-use rules::Line;
-use rules::PastSet;
-use rules::Verdict;
+use station_rules::Line;
+use station_rules::PastSet;
+use station_rules::Verdict;
 use whole::places;
 ghost use mathlib.Core.Path.{_≡_};
 ghost use Prim.Native.Nat.{_≤_, _<_};
 ghost use lib.ListN.{length};
 ghost use Rattle.whole.specs.Parts.{Within};
-ghost use Rattle.rules.specs.Stations.{lineOf};
-ghost use Rattle.rules.specs.Places.{linePlaces, stationIn};
-ghost use Rattle.rules.specs.InPlace.{sheetLine, withDay, withLine, withRepaired};
-ghost use Rattle.lines.specs.Ranges.{SetFits};
+ghost use Rattle.station_rules.specs.Stations.{lineOf};
+ghost use Rattle.station_rules.specs.Places.{linePlaces, stationIn};
+ghost use Rattle.station_rules.specs.InPlace.{sheetLine, withDay, withLine, withRepaired};
+ghost use Rattle.line.specs.Ranges.{SetFits};
 
 // ---- read
 
@@ -33,7 +33,7 @@ pub fn line_of(state: &[i32], line: usize) -> Line
     ensures { λ r. ⌜ r ≡ lineOf (stationIn (now (state .entry))) line ⌝ }
 {
     let start = 2 + 15 * line;
-    lines::line_in(&state[start..start + 15])
+    line::line_in(&state[start..start + 15])
 }
 
 // ---- written
@@ -53,7 +53,7 @@ pub fn enter_sheet(state: &mut [i32], line: usize, p: PastSet, v: Verdict)
     ensures { λ r. ⌜ now (state .exit) ≡ withLine (now (state .entry)) line (sheetLine (linePlaces (now (state .entry)) line) p v) ⌝ }
 {
     let start = 2 + 15 * line;
-    lines::enter_sheet(&mut state[start..start + 15], p, v);
+    line::enter_sheet(&mut state[start..start + 15], p, v);
 }
 
 // A line after a repair.
@@ -62,5 +62,5 @@ pub fn repair_line(state: &mut [i32], line: usize)
     ensures { λ r. ⌜ now (state .exit) ≡ withRepaired (now (state .entry)) line ⌝ }
 {
     let start = 2 + 15 * line;
-    lines::repair(&mut state[start..start + 15]);
+    line::repair(&mut state[start..start + 15]);
 }

@@ -4,14 +4,14 @@ use mir.Syntax.{w32}
 use mir.Val.{SFits}
 use lib.Dec.{leb}
 use Rattle.whole.proofs.Read.{back}
-use Rattle.chart_rules.specs.declared.Limits.{Limits}
-use Rattle.chart_rules.specs.Rules.{absolute, tolerance, rangeTolerance}
+use Rattle.chart_limits.specs.declared.Limits.{Limits}
+use Rattle.chart_limits.specs.Rules.{absolute, tolerance, rangeTolerance}
 use Rattle.chart_run.specs.Run.{run}
 use Rattle.chart_state.specs.Charts.{pastOf}
 use Rattle.chart_line.specs.Lines.{valuesOf}
 use borrow.Author.Needs.{needs}
-use Rattle.chart_rules.specs.Rows.{SmallLimits}
-use Rattle.chart_rules.proofs.Rows.{row-small}
+use Rattle.chart_limits.specs.Rows.{SmallLimits}
+use Rattle.chart_limits.proofs.Rows.{row-small}
 use Rattle.chart_line.proofs.values_of.Statement.{statement}
 use Rattle.chart_line.proofs.values_of.Tie as tie
 

@@ -4,16 +4,16 @@ use Prim.Native.Nat.{ℕ, _<_}
 use native.Mathlib.Omega.{arith}
 use lib.ListN.{length}
 use borrow.Author.Tests.{not-true, not-false}
-use Rattle.rules.specs.Rows.{lineCount}
-use Rattle.rules.specs.Held.{Station, lineValues}
-use Rattle.rules.specs.Judging.{dayCheck}
-use Rattle.rules.specs.Soundness.{sound}
-use Rattle.rules.specs.Places.{stationIn}
-use Rattle.rules.proofs.RowFacts.{row-facts}
-use Rattle.rules.proofs.InPlace.{all-places}
-use Rattle.rules.specs.declared.Line.{Line}
-use Rattle.lines.specs.Ranges.{LineFits}
-use Rattle.soundness.proofs.FitsLaws.{line-fits}
+use Rattle.station_rules.specs.Rows.{lineCount}
+use Rattle.station_rules.specs.Held.{Station, lineValues}
+use Rattle.station_rules.specs.Judging.{dayCheck}
+use Rattle.station_rules.specs.Soundness.{sound}
+use Rattle.station_rules.specs.Places.{stationIn}
+use Rattle.station_rules.proofs.RowFacts.{row-facts}
+use Rattle.station_rules.proofs.InPlace.{all-places}
+use Rattle.station_rules.specs.declared.Line.{Line}
+use Rattle.line.specs.Ranges.{LineFits}
+use Rattle.station_soundness.proofs.FitsLaws.{line-fits}
 use Rattle.market.specs.Answers.{testedOf}
 use Rattle.market.proofs.AnswerLaws.{answer-unsound, answer-day, answer-line, answer-tested}
 use borrow.Author.Needs.{needs}

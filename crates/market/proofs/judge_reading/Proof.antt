@@ -5,10 +5,10 @@ use native.Mathlib.Omega.{arith}
 use lib.IntN.{pos, _+ℤ_}
 use borrow.Author.Tests.{not-true, not-false}
 use Rattle.whole.proofs.Read.{back-in}
-use Rattle.rules.specs.Rows.{standardBasis}
-use Rattle.rules.specs.Held.{lineValues}
-use Rattle.rules.specs.Markets.{basisOf, within}
-use Rattle.rules.proofs.RowFacts.{row-facts}
+use Rattle.station_rules.specs.Rows.{standardBasis}
+use Rattle.station_rules.specs.Held.{lineValues}
+use Rattle.station_rules.specs.Markets.{basisOf, within}
+use Rattle.station_rules.proofs.RowFacts.{row-facts}
 use Rattle.market.specs.Answers.{valuedOf}
 use Rattle.market.proofs.AnswerLaws.{basis-bad, value-bad, both-right}
 use Rattle.market.proofs.judge_reading.Statement.{statement}

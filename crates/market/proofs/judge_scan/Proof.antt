@@ -1,6 +1,6 @@
 use mathlib.Core.Path.{sym, _∙_}
 use Rattle.reading.proofs.Laws.{answer-le}
-use Rattle.rules.specs.Held.{lineValues}
+use Rattle.station_rules.specs.Held.{lineValues}
 use Rattle.market.proofs.AnswerLaws.{scan-wrong, float-bad, float-read}
 use borrow.Author.Needs.{needs}
 use Rattle.market.proofs.judge_scan.Statement.{statement}

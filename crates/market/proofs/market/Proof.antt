@@ -1,7 +1,7 @@
 use mathlib.Core.Path.{sym, _∙_}
-use Rattle.rules.specs.Places.{stationIn}
-use Rattle.rules.specs.declared.MarketAnswer.the-variants.{Certified, Refused}
-use Rattle.rules.proofs.InPlace.{all-places}
+use Rattle.station_rules.specs.Places.{stationIn}
+use Rattle.station_rules.specs.declared.MarketAnswer.the-variants.{Certified, Refused}
+use Rattle.station_rules.proofs.InPlace.{all-places}
 use Rattle.market.proofs.AnswerLaws.{in-order, left-by}
 use borrow.Author.Needs.{needs}
 use Rattle.market.proofs.market.Statement.{statement}

@@ -1,6 +1,6 @@
 use mathlib.Core.Path.{sym, _∙_}
 use native.Mathlib.Omega.{arith}
-use Rattle.numbers.specs.Sheet.{Sheet}
+use Rattle.sheet_numbers.specs.Sheet.{Sheet}
 use Rattle.sheet.proofs.JudgedLaws.{size-refused, number-refused, third-refused, again-refused, all-right}
 use Rattle.sheet.proofs.judge.Statement.{statement}
 use Rattle.sheet.proofs.judge.Tie as tie

@@ -4,8 +4,8 @@ use Prim.Native.Nat.{_-_, _≤_}
 use native.Mathlib.Omega.{arith}
 use Rattle.whole.proofs.Fold.{Going, going-start}
 use Rattle.whole.proofs.ListLaws.{orElse, or-step, any-fold}
-use Rattle.rules.specs.Sheets.{Sample, samplesOf, wrongNumber}
-use Rattle.numbers.proofs.SheetLaws.{pass-step, pass-done}
+use Rattle.station_rules.specs.Sheets.{Sample, samplesOf, wrongNumber}
+use Rattle.sheet_numbers.proofs.SheetLaws.{pass-step, pass-done}
 use Rattle.sheet_checks.proofs.any_wrong_number.Statement.{statement}
 use Rattle.sheet_checks.proofs.any_wrong_number.Tie as tie
 

@@ -2,7 +2,7 @@ use mathlib.Core.Path.{sym, ap, _∙_}
 use mathlib.Core.Bool.{Bool, _&&_}
 use mathlib.Core.List.{map}
 use borrow.Author.Tests.{not-true, not-false}
-use Rattle.rules.specs.Sheets.{samplesOf, firstDeviation, againRound}
+use Rattle.station_rules.specs.Sheets.{samplesOf, firstDeviation, againRound}
 use Rattle.sheet_range.specs.Range.{wide}
 use Rattle.sheet_range.proofs.again_round.Statement.{statement}
 use Rattle.sheet_range.proofs.again_round.Tie as tie

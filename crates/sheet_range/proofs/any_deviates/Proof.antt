@@ -4,8 +4,8 @@ use Prim.Native.Nat.{_-_, _≤_}
 use native.Mathlib.Omega.{arith}
 use Rattle.whole.proofs.Fold.{Going, going-start}
 use Rattle.whole.proofs.ListLaws.{orElse, or-step, any-fold, any-map}
-use Rattle.rules.specs.Sheets.{Sample, samplesOf, deviates, firstDeviation}
-use Rattle.numbers.proofs.SheetLaws.{pass-step, pass-done, sample-measured}
+use Rattle.station_rules.specs.Sheets.{Sample, samplesOf, deviates, firstDeviation}
+use Rattle.sheet_numbers.proofs.SheetLaws.{pass-step, pass-done, sample-measured}
 use Rattle.sheet_range.proofs.any_deviates.Statement.{statement}
 use Rattle.sheet_range.proofs.any_deviates.Tie as tie
 

@@ -6,19 +6,19 @@ use lib.IntN.{ℤ}
 use lib.ListN.{length}
 use Rattle.whole.specs.Parts.{Within}
 use Rattle.whole.proofs.Read.{rd, back-in}
-use Rattle.rules.specs.Rows.{limitsOf}
-use Rattle.rules.specs.Lines.{verdictOf}
-use Rattle.rules.specs.Held.{Station, lineValues, phaseHeld}
-use Rattle.rules.specs.Stations.{lineOf, valuesOf}
-use Rattle.rules.specs.Places.{linePlaces, stationIn}
-use Rattle.rules.specs.InPlace.{sheetLine, withDay, withLine}
-use Rattle.rules.specs.declared.Verdict.{Verdict}
-use Rattle.rules.specs.declared.SheetAnswer.{SheetAnswer}
-use Rattle.rules.proofs.RowFacts.{row-facts}
-use Rattle.rules.proofs.InPlace.{all-places, line-full, sheet-full, line-written}
-use Rattle.averages.specs.Ranges.{Limited}
-use Rattle.lines.specs.Ranges.{LineFits, SetFits}
-use Rattle.soundness.proofs.FitsLaws.{line-fits}
+use Rattle.station_rules.specs.Rows.{limitsOf}
+use Rattle.station_rules.specs.Lines.{verdictOf}
+use Rattle.station_rules.specs.Held.{Station, lineValues, phaseHeld}
+use Rattle.station_rules.specs.Stations.{lineOf, valuesOf}
+use Rattle.station_rules.specs.Places.{linePlaces, stationIn}
+use Rattle.station_rules.specs.InPlace.{sheetLine, withDay, withLine}
+use Rattle.station_rules.specs.declared.Verdict.{Verdict}
+use Rattle.station_rules.specs.declared.SheetAnswer.{SheetAnswer}
+use Rattle.station_rules.proofs.RowFacts.{row-facts}
+use Rattle.station_rules.proofs.InPlace.{all-places, line-full, sheet-full, line-written}
+use Rattle.line_averages.specs.Ranges.{Limited}
+use Rattle.line.specs.Ranges.{LineFits, SetFits}
+use Rattle.station_soundness.proofs.FitsLaws.{line-fits}
 use Rattle.station.specs.Accepted.{acceptedIn}
 use Rattle.station.proofs.LimitLaws.{limits-limited}
 use borrow.Author.Needs.{needs}

@@ -5,17 +5,17 @@ use native.Mathlib.Omega.{arith}
 use lib.ListN.{length}
 use borrow.Author.Tests.{not-true, not-false}
 use Rattle.whole.proofs.Read.{back-in}
-use Rattle.rules.specs.Rows.{samples, lineCount, limitsOf}
-use Rattle.rules.specs.Held.{Station}
-use Rattle.rules.specs.Judging.{dayCheck}
-use Rattle.rules.specs.Soundness.{sound}
-use Rattle.rules.specs.Places.{stationIn}
-use Rattle.rules.proofs.RowFacts.{row-facts}
-use Rattle.rules.proofs.InPlace.{all-places}
-use Rattle.rules.specs.declared.Line.{Line}
+use Rattle.station_rules.specs.Rows.{samples, lineCount, limitsOf}
+use Rattle.station_rules.specs.Held.{Station}
+use Rattle.station_rules.specs.Judging.{dayCheck}
+use Rattle.station_rules.specs.Soundness.{sound}
+use Rattle.station_rules.specs.Places.{stationIn}
+use Rattle.station_rules.proofs.RowFacts.{row-facts}
+use Rattle.station_rules.proofs.InPlace.{all-places}
+use Rattle.station_rules.specs.declared.Line.{Line}
 use Rattle.sheet.specs.Judged.{judgedOf}
-use Rattle.lines.specs.Ranges.{LineFits}
-use Rattle.soundness.proofs.FitsLaws.{line-fits}
+use Rattle.line.specs.Ranges.{LineFits}
+use Rattle.station_soundness.proofs.FitsLaws.{line-fits}
 use Rattle.station.proofs.LimitLaws.{limits-fair}
 use Rattle.station.proofs.SheetLaws.{sheet-unsound, sheet-day, sheet-line, ruled-by}
 use borrow.Author.Needs.{needs}

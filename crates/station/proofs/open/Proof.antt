@@ -4,7 +4,7 @@ use lib.IntN.{pos}
 use lib.ListN.{set, replicate}
 use borrow.Author.Tests.{not-true, not-false, ltb-true}
 use Prim.Native.Nat.{_<_}
-use Rattle.rules.specs.declared.OpenAnswer.{OpenAnswer}
+use Rattle.station_rules.specs.declared.OpenAnswer.{OpenAnswer}
 use Rattle.station.proofs.CallLaws.{open-none, open-some}
 use borrow.Author.Needs.{needs}
 use Rattle.station.proofs.open.Statement.{statement}

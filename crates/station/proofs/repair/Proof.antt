@@ -8,12 +8,12 @@ use lib.IntN.{ℤ}
 use lib.ListN.{length}
 use borrow.Author.Tests.{not-true, not-false, ltb-false}
 use Rattle.whole.proofs.Tests.{or-none}
-use Rattle.rules.specs.Judging.{dayCheck}
-use Rattle.rules.specs.Soundness.{sound}
-use Rattle.rules.specs.Places.{stationIn}
-use Rattle.rules.specs.InPlace.{withDay, withRepaired, repairPlaces}
-use Rattle.rules.specs.declared.RepairAnswer.{RepairAnswer}
-use Rattle.rules.proofs.InPlace.{all-places, repaired-47}
+use Rattle.station_rules.specs.Judging.{dayCheck}
+use Rattle.station_rules.specs.Soundness.{sound}
+use Rattle.station_rules.specs.Places.{stationIn}
+use Rattle.station_rules.specs.InPlace.{withDay, withRepaired, repairPlaces}
+use Rattle.station_rules.specs.declared.RepairAnswer.{RepairAnswer}
+use Rattle.station_rules.proofs.InPlace.{all-places, repaired-47}
 use Rattle.station.proofs.CallLaws.{repair-unsound, repair-day, repair-done}
 use borrow.Author.Needs.{needs}
 use Rattle.station.proofs.repair.Statement.{statement}

@@ -1,4 +1,4 @@
-use Rattle.rules.specs.Places.{stationIn}
+use Rattle.station_rules.specs.Places.{stationIn}
 use borrow.Author.Needs.{needs}
 use Rattle.station_places.proofs.day_of.Statement.{statement}
 use Rattle.station_places.proofs.day_of.Tie as tie

@@ -4,10 +4,10 @@ use lib.IntN.{ℤ}
 use lib.ListN.{length, take, drop}
 use Rattle.whole.specs.Parts.{Within}
 use Rattle.whole.specs.Places.{place}
-use Rattle.rules.specs.Places.{lineIn, lineStart}
-use Rattle.rules.specs.InPlace.{sheetLine, withLine}
-use Rattle.rules.proofs.InPlace.{line-full}
-use Rattle.lines.specs.Ranges.{SetFits}
+use Rattle.station_rules.specs.Places.{lineIn, lineStart}
+use Rattle.station_rules.specs.InPlace.{sheetLine, withLine}
+use Rattle.station_rules.proofs.InPlace.{line-full}
+use Rattle.line.specs.Ranges.{SetFits}
 use Rattle.station_places.proofs.LentLines.{fifteen, handed-back, same-held, same-intercept}
 use borrow.Author.Needs.{needs}
 use Rattle.station_places.proofs.enter_sheet.Statement.{statement}

@@ -1,8 +1,8 @@
 use mathlib.Core.Path.{_∙_, ap}
 use Prim.Native.Nat.{ℕ}
 use lib.ListN.{take, drop}
-use Rattle.rules.specs.Places.{lineIn, lineStart}
-use Rattle.rules.proofs.InPlace.{line-there}
+use Rattle.station_rules.specs.Places.{lineIn, lineStart}
+use Rattle.station_rules.proofs.InPlace.{line-there}
 use Rattle.station_places.proofs.LentLines.{fifteen}
 use borrow.Author.Needs.{needs}
 use Rattle.station_places.proofs.line_of.Statement.{statement}

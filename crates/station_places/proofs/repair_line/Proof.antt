@@ -1,8 +1,8 @@
 use mathlib.Core.Path.{_∙_, ap}
 use Prim.Native.Nat.{ℕ}
 use lib.ListN.{take, drop}
-use Rattle.rules.specs.Places.{lineStart}
-use Rattle.rules.specs.InPlace.{repairedPlaces, withLine}
+use Rattle.station_rules.specs.Places.{lineStart}
+use Rattle.station_rules.specs.InPlace.{repairedPlaces, withLine}
 use Rattle.station_places.proofs.LentLines.{fifteen, handed-back}
 use borrow.Author.Needs.{needs}
 use Rattle.station_places.proofs.repair_line.Statement.{statement}

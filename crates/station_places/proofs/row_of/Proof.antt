@@ -1,4 +1,4 @@
-use Rattle.rules.specs.Places.{rowIn, stationIn}
+use Rattle.station_rules.specs.Places.{rowIn, stationIn}
 use borrow.Author.Tests.{eq-eqb}
 use lib.ListN.{length}
 use borrow.Author.Needs.{needs}

@@ -1,8 +1,8 @@
 use mathlib.Core.Path.{ap, _∙_}
 use denote.Ref.{now}
 use Rattle.chart.specs.InPlace.{ChartedIn}
-use Rattle.chart_answers.specs.ChartAnswers.{setGiven, chartSetCall}
-use Rattle.chart_answers.proofs.Lengths.{line-length}
+use Rattle.abi_chart.specs.ChartAnswers.{setGiven, chartSetCall}
+use Rattle.abi_chart.proofs.Lengths.{line-length}
 use borrow.Author.Needs.{needs}
 use Rattle.abi.proofs.charts.grain_chart_set.Statement.{statement}
 use Rattle.abi.proofs.charts.grain_chart_set.Tie as tie

@@ -1,8 +1,8 @@
 use mathlib.Core.Path.{sym, ap, _∙_}
 use denote.Ref.{now}
-use Rattle.chart_file.specs.Texts.{TextCharted}
-use Rattle.chart_answers.specs.ChartAnswers.{textGiven, chartTextCall}
-use Rattle.chart_answers.proofs.Lengths.{text-length}
+use Rattle.text.specs.Texts.{TextCharted}
+use Rattle.abi_chart.specs.ChartAnswers.{textGiven, chartTextCall}
+use Rattle.abi_chart.proofs.Lengths.{text-length}
 use borrow.Author.Needs.{needs}
 use Rattle.abi.proofs.charts.grain_chart_text.Statement.{statement}
 use Rattle.abi.proofs.charts.grain_chart_text.Tie as tie

@@ -1,8 +1,8 @@
 use mathlib.Core.Path.{ap, ap₂, _∙_}
 use Rattle.whole.proofs.Read.{back}
-use Rattle.rules.specs.InPlace.{Left, marketIn}
-use Rattle.rules.specs.declared.MarketAnswer.{MarketAnswer}
-use Rattle.station_answers.specs.StationAnswers.{basisFor, marketGiven, marketCall}
+use Rattle.station_rules.specs.InPlace.{Left, marketIn}
+use Rattle.station_rules.specs.declared.MarketAnswer.{MarketAnswer}
+use Rattle.abi_station.specs.StationAnswers.{basisFor, marketGiven, marketCall}
 use borrow.Author.Needs.{needs}
 use Rattle.abi.proofs.stations.grain_market.Statement.{statement}
 use Rattle.abi.proofs.stations.grain_market.Tie as tie

@@ -1,7 +1,7 @@
 use mathlib.Core.Path.{ap, _∙_}
-use Rattle.rules.specs.InPlace.{Left}
-use Rattle.rules.specs.declared.OpenAnswer.{OpenAnswer}
-use Rattle.station_answers.specs.StationAnswers.{openGiven, openCall}
+use Rattle.station_rules.specs.InPlace.{Left}
+use Rattle.station_rules.specs.declared.OpenAnswer.{OpenAnswer}
+use Rattle.abi_station.specs.StationAnswers.{openGiven, openCall}
 use borrow.Author.Needs.{needs}
 use Rattle.abi.proofs.stations.grain_open.Statement.{statement}
 use Rattle.abi.proofs.stations.grain_open.Tie as tie

@@ -1,5 +1,5 @@
 use mathlib.Core.Path.{ap, _∙_}
-use Rattle.station_answers.specs.StationAnswers.{readingGiven}
+use Rattle.abi_station.specs.StationAnswers.{readingGiven}
 use borrow.Author.Needs.{needs}
 use Rattle.abi.proofs.stations.grain_reading.Statement.{statement}
 use Rattle.abi.proofs.stations.grain_reading.Tie as tie

@@ -1,7 +1,7 @@
 use mathlib.Core.Path.{ap, _∙_}
-use Rattle.rules.specs.InPlace.{Left}
-use Rattle.rules.specs.declared.RepairAnswer.{RepairAnswer}
-use Rattle.station_answers.specs.StationAnswers.{repairGiven, repairCall}
+use Rattle.station_rules.specs.InPlace.{Left}
+use Rattle.station_rules.specs.declared.RepairAnswer.{RepairAnswer}
+use Rattle.abi_station.specs.StationAnswers.{repairGiven, repairCall}
 use borrow.Author.Needs.{needs}
 use Rattle.abi.proofs.stations.grain_repair.Statement.{statement}
 use Rattle.abi.proofs.stations.grain_repair.Tie as tie

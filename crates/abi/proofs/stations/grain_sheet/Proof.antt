@@ -1,7 +1,7 @@
 use mathlib.Core.Path.{ap, _∙_}
-use Rattle.rules.specs.InPlace.{Left}
-use Rattle.rules.specs.declared.SheetAnswer.{SheetAnswer}
-use Rattle.station_answers.specs.StationAnswers.{sheetGiven, sheetCall}
+use Rattle.station_rules.specs.InPlace.{Left}
+use Rattle.station_rules.specs.declared.SheetAnswer.{SheetAnswer}
+use Rattle.abi_station.specs.StationAnswers.{sheetGiven, sheetCall}
 use borrow.Author.Needs.{needs}
 use Rattle.abi.proofs.stations.grain_sheet.Statement.{statement}
 use Rattle.abi.proofs.stations.grain_sheet.Tie as tie

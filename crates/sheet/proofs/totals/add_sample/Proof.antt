@@ -1,5 +1,5 @@
 use native.Mathlib.Omega.{arith}
-use Rattle.numbers.specs.Samples.{sampleOf}
+use Rattle.sheet_numbers.specs.Samples.{sampleOf}
 use Rattle.sheet.specs.Totals.{asSet}
 use Rattle.sheet.proofs.TotalLaws.{tallied-yes, tallied-no}
 use borrow.Author.Needs.{needs}

@@ -4,10 +4,10 @@ use native.Mathlib.Omega.{arith}
 use Rattle.whole.specs.Parts.{Within}
 use Rattle.whole.proofs.Fold.{Going, going-start}
 use Rattle.whole.proofs.Read.{back-in}
-use Rattle.rules.specs.Sheets.{Sample, samplesOf}
-use Rattle.rules.specs.declared.Set.{Set}
+use Rattle.station_rules.specs.Sheets.{Sample, samplesOf}
+use Rattle.station_rules.specs.declared.Set.{Set}
 use Rattle.sheet.specs.Totals.{asSet, tallied}
-use Rattle.numbers.proofs.SheetLaws.{pass-step, pass-done, sample-measured}
+use Rattle.sheet_numbers.proofs.SheetLaws.{pass-step, pass-done, sample-measured}
 use Rattle.sheet.proofs.TotalLaws.{none, totals-fold}
 use Rattle.sheet.proofs.totals.counted.Statement.{statement}
 use Rattle.sheet.proofs.totals.counted.Tie as tie

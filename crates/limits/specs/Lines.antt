@@ -1,9 +1,0 @@
--- Paper 01, "Product rows": the limits of a line of one row.
-use Prim.Native.Nat.{ℕ}
-use lib.ListN.{getD}
-use Rattle.rules.specs.Rows.{Row, limits}
-use Rattle.rules.specs.declared.Limits.{Limits}
-
--- the limits of a row's line
-unfoldable pub limitsIn : Row → ℕ → Limits
-limitsIn r line = getD (r .lines) line (limits 0 0 0 0 0 0 0 0)

@@ -1,0 +1,47 @@
+// Numbers 12 to 14 of a market test, and the certificate (paper 01, "Market test and moisture basis").
+use station_rules::Certificate;
+use station_rules::Line;
+use station_rules::MarketAnswer;
+use station_rules::Refusal;
+use whole::Int;
+ghost use mathlib.Core.Path.{_≡_};
+ghost use mathlib.Core.Bool.{true};
+ghost use Prim.Native.Nat.{_<_};
+ghost use Rattle.station_rules.specs.Held.{phaseWord, lineValues};
+ghost use Rattle.station_rules.specs.Markets.{isOpen, within};
+ghost use Rattle.line.specs.Ranges.{LineFits};
+ghost use Rattle.market_certificate.specs.Certified.{certifiedOf};
+
+fn is_open(phase: u32) -> bool
+    ensures { λ r. ⌜ r ≡ isOpen (phaseWord phase) ⌝ }
+{
+    phase == 1
+}
+
+// By the basis B and the corrected value h.
+pub fn certify(a: u32, l: Line, day: u32, b: Int, h: Int) -> MarketAnswer
+    requires { ⌜ (a < 10000) × (LineFits l) ⌝ }
+    requires { ⌜ (within 0 5000 (b .z) ≡ true) × (within 0 10000 (h .z) ≡ true) ⌝ }
+    ensures { λ r. ⌜ r ≡ certifiedOf a (lineValues l) day (b .z) (h .z) ⌝ }
+{
+    if !is_open(l.phase) {
+        return MarketAnswer::Refused(Refusal::NotOpen);
+    }
+    let past = l.past;
+    let newest = market_figures::newest_day(l.held, past);
+    if newest + 7 < day {
+        return MarketAnswer::Refused(Refusal::OldSet);
+    }
+    let basis = whole::to_u32(b);
+    let value = whole::to_u32(h);
+    if market_figures::is_too_high(a, basis, value) {
+        return MarketAnswer::Refused(Refusal::TooHigh);
+    }
+    MarketAnswer::Certified(Certificate {
+        day: newest,
+        intercept: l.intercept,
+        basis: b.z,
+        figure: market_figures::in_tenths(value),
+        converted: market_figures::in_tenths_at(a, basis, value),
+    })
+}

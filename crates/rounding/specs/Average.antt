@@ -1,8 +1,0 @@
--- Paper 01, "A line between sheets": the average rounded to a whole hundredth, halves away from zero.
-use Prim.Native.Nat.{ℕ}
-use lib.IntN.{ℤ}
-use Rattle.rules.specs.Lines.{roundedAverage}
-
--- S / N rounded; a test's limit has no part in it
-abbrev pub averageOf : ℤ → ℕ → ℤ
-averageOf sum count = roundedAverage (record { limit = 0; sum = sum; count = count })

@@ -1,0 +1,21 @@
+-- Paper 01, "The reference sheet": what the passes after number 5 are handed.
+use mathlib.Core.Path.{_≡_}
+use mathlib.Core.Bool.{false}
+use mathlib.Core.List.{List, []}
+use Prim.Native.Nat.{ℕ, _*_, _≤_}
+use lib.IntN.{ℤ}
+use lib.ListN.{length}
+use Rattle.whole.specs.Lists.{any}
+use Rattle.station_rules.specs.Sheets.{Sample, samplesOf, wrongNumber}
+use Rattle.sheet_numbers.specs.Samples.{sampleFrom}
+
+-- what stands for a sample past the sheet's end
+abbrev pub blank : Sample
+blank = sampleFrom []
+
+-- so many samples, and no number of them wrong
+pub record Sheet (n : ℕ) (numbers : List ℤ) : Type 0 where
+  pub size : length numbers ≡ 6 * n
+  pub some : 1 ≤ n
+  pub most : n ≤ 1000
+  pub right : any wrongNumber (samplesOf numbers) ≡ false

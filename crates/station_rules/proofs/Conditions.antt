@@ -1,0 +1,152 @@
+-- The book certifies a market test exactly when the market conditions hold, and they rest on a recent sheet that met.
+use mathlib.Core.Path.{_≡_, refl, _∙_, ap}
+use mathlib.Core.Bool.{Bool, true, false, not, _||_, cond}
+use mathlib.Core.List.{List, [], _∷_}
+use mathlib.Core.Option.{Option, none, some}
+use Prim.Native.Nat.{ℕ, _+_, _≤_}
+use native.Mathlib.Omega.{arith}
+use lib.Dec.{T, eqb, leb, ltb, leb→le, ltb→lt, lt→ltb}
+use lib.IntN.{ℤ, pos, _+ℤ_}
+use lib.Signed.{leZ, _≤ℤ_, leZ-yes}
+use borrow.Author.Tests.{ltb-false, le-ltb}
+use Rattle.station_rules.specs.Rows.{standardBasis, lineCount}
+use Rattle.reading.specs.Reading.{readingOf, inRange}
+use Rattle.station_rules.specs.Readings.{scanFits, lineFloat}
+use Rattle.station_rules.specs.Markets as markets
+use Rattle.station_rules.specs.Markets.{basisOf, newestDay, within, tooHigh, correctedValue, marketChecks}
+use Rattle.station_rules.specs.Judging.{marketNumbers}
+use Rattle.station_rules.specs.Soundness.{daysFall}
+use Rattle.station_rules.specs.Lines.{LinePhase, newLine, openLine, checkDueLine}
+use Rattle.station_rules.specs.Calls.{marketCall}
+use Rattle.station_rules.specs.Books.{Book, SheetEntry, Entry, sheetEntry, repairEntry, sheetsOf, newestTouching, isMetSheet, newestUnmet, bookIntercept, bookPhase, bookPast, bookValues, bookNumber}
+use Rattle.station_rules.specs.Demand3.{MarketConditions, RestsOn}
+use Rattle.station_rules.specs.declared.Scan.{Scan}
+use Rattle.station_rules.specs.declared.Basis.{Basis}
+use Rattle.station_rules.specs.declared.PastSet.{PastSet}
+use Rattle.whole.proofs.Tests.{and-l, and-r, and-i, to-true, or-none, not-false-T}
+use Rattle.station_rules.proofs.Checks.{none-applies, no-number}
+
+-- ---- each test and its condition
+
+not-true : (b : Bool) → T b → not b ≡ false
+not-true b t = ap not (to-true b t)
+
+within-from : (low high : ℕ) (z : ℤ) → not (within low high z) ≡ false → (pos low ≤ℤ z) × (z ≤ℤ pos high)
+within-from low high z e =
+    let t = not-false-T (within low high z) e in
+    (leZ-yes (and-l (leZ (pos low) z) (leZ z (pos high)) t), leZ-yes (and-r (leZ (pos low) z) (leZ z (pos high)) t))
+
+within-to : (low high : ℕ) (z : ℤ) → pos low ≤ℤ z → z ≤ℤ pos high → not (within low high z) ≡ false
+within-to low high z h k = not-true (within low high z) (and-i (leZ (pos low) z) (leZ z (pos high)) (h .le) (k .le))
+
+open-from : (p : LinePhase) → not (markets.isOpen p) ≡ false → p ≡ openLine
+open-from newLine e = let q : _≡_ {A = ℕ} 0 1 = cc in absurd (omega arith)
+open-from openLine e = refl
+open-from checkDueLine e = let q : _≡_ {A = ℕ} 0 1 = cc in absurd (omega arith)
+
+or-false : (a b : Bool) → a ≡ false → b ≡ false → (a || b) ≡ false
+or-false a b p q = rw (p, q)
+
+module _ (b : Book) (day line : ℕ) (scan : Scan) (basis : Basis) where
+  -- no number applies: the conditions hold
+  pub conditions-from : bookNumber b (marketCall day line scan basis) ≡ none → MarketConditions b day line scan basis
+  unfolding bookNumber marketNumbers marketChecks correctedValue tooHigh bookValues
+  conditions-from e =
+      let f = none-applies (marketNumbers (b .row) (b .day) (bookValues line (b .entries)) day line scan basis) e in
+      let d = or-none (ltb day (b .day)) (ltb 99999 day) (f .0) in
+      let i = within-from 0 5000 (basisOf (standardBasis (b .row)) basis) (f .1 .1 .1 .1 .0) in
+      let h = within-from 0 10000 (pos (readingOf (lineFloat scan line)) +ℤ bookIntercept line (b .entries)) (f .1 .1 .1 .1 .1 .0) in
+      record {
+        number2 = (ltb-false day (b .day) (d .0), ltb-false 99999 day (d .1));
+        number3 = ltb→lt line (lineCount (b .row)) (not-false-T (ltb line (lineCount (b .row))) (f .1 .0));
+        number8 = not-false-T (scanFits (b .row) scan) (f .1 .1 .0);
+        number9 = not-false-T (inRange (lineFloat scan line)) (f .1 .1 .1 .0);
+        number10 = i;
+        number11 = h;
+        number12 = open-from (bookPhase line (b .entries)) (f .1 .1 .1 .1 .1 .1 .0);
+        number13 = ltb-false (newestDay (bookPast line (b .entries)) + 7) day (f .1 .1 .1 .1 .1 .1 .1 .0);
+        number14 = ltb-false _ _ (f .1 .1 .1 .1 .1 .1 .1 .1 .0);
+      }
+
+  -- the conditions hold: no number applies
+  pub conditions-to : MarketConditions b day line scan basis → bookNumber b (marketCall day line scan basis) ≡ none
+  unfolding bookNumber marketNumbers marketChecks correctedValue tooHigh bookValues
+  conditions-to c =
+      no-number (marketNumbers (b .row) (b .day) (bookValues line (b .entries)) day line scan basis) (
+        or-false (ltb day (b .day)) (ltb 99999 day) (le-ltb day (b .day) (c .number2 .0)) (le-ltb 99999 day (c .number2 .1)),
+        (
+          not-true (ltb line (lineCount (b .row))) (lt→ltb line (lineCount (b .row)) (c .number3)),
+          (
+            not-true (scanFits (b .row) scan) (c .number8),
+            (
+              not-true (inRange (lineFloat scan line)) (c .number9),
+              (
+                within-to 0 5000 (basisOf (standardBasis (b .row)) basis) (c .number10 .0) (c .number10 .1),
+                (
+                  within-to 0 10000 (pos (readingOf (lineFloat scan line)) +ℤ bookIntercept line (b .entries)) (c .number11 .0) (c .number11 .1),
+                  (
+                    ap (λ (p : LinePhase). not (markets.isOpen p)) (c .number12),
+                    (
+                      le-ltb (newestDay (bookPast line (b .entries)) + 7) day (c .number13),
+                      (
+                        le-ltb _ _ (c .number14),
+                        tt,
+                      ),
+                    ),
+                  ),
+                ),
+              ),
+            ),
+          ),
+        ),
+      )
+
+-- ---- what an open line rests on
+
+open-met : (m u : Bool) → cond m openLine (cond u checkDueLine newLine) ≡ openLine → m ≡ true
+open-met true u e = refl
+open-met false true e = let q : _≡_ {A = ℕ} 0 1 = cc in absurd (omega arith)
+open-met false false e = let q : _≡_ {A = ℕ} 0 1 = cc in absurd (omega arith)
+
+met-entry : (o : Option Entry) → isMetSheet o ≡ true → (e : SheetEntry) × (o ≡ some (sheetEntry e)) × (e .met ≡ true)
+met-entry none h = let q : _≡_ {A = ℕ} 0 1 = cc in absurd (omega arith)
+met-entry (some (sheetEntry e)) h = (e, refl, h)
+met-entry (some (repairEntry d)) h = let q : _≡_ {A = ℕ} 0 1 = cc in absurd (omega arith)
+
+-- the newest entry touching the line, a sheet that met, is the newest past set
+newest-past : (line : ℕ) (es : List Entry) (e : SheetEntry) → newestTouching line es ≡ some (sheetEntry e) → e .met ≡ true
+    → newestDay (bookPast line es) ≡ e .day
+unfolding bookPast
+newest-past line [] e h m = let q : _≡_ {A = ℕ} 0 1 = cc in absurd (omega arith)
+newest-past line (sheetEntry x ∷ es) e h m = go (eqb (x .line) line) refl (newest-past line es e)
+  where
+    go : (t : Bool) → eqb (x .line) line ≡ t
+        → (newestTouching line es ≡ some (sheetEntry e) → e .met ≡ true → newestDay (bookPast line es) ≡ e .day)
+        → newestDay (bookPast line (sheetEntry x ∷ es)) ≡ e .day
+    go true g ih =
+        let k : some (sheetEntry x) ≡ some (sheetEntry e) = rw g at h in
+        let y : x ≡ e = cc in
+        let n : x .met ≡ true = ap (λ (z : SheetEntry). z .met) y ∙ m in
+        simp (g, n) (ap (λ (z : SheetEntry). z .day) y)
+    go false g ih = simp g (ih (rw g at h) m)
+newest-past line (repairEntry d ∷ es) e h m = let q : _≡_ {A = ℕ} 0 1 = cc in absurd (omega arith)
+
+newest-le : (d : ℕ) (past : List PastSet) → T (daysFall d past) → newestDay past ≤ d
+newest-le d [] t = omega arith
+newest-le d (p ∷ ps) t = leb→le (p .day) d (and-l (leb (p .day) d) (daysFall (p .day) ps) t)
+
+-- the conditions rest on the newest sheet or repair touching the line: a sheet that met, at most 7 days earlier
+pub rests-on : (b : Book) (day line : ℕ) (scan : Scan) (basis : Basis) → T (daysFall (b .day) (bookPast line (b .entries)))
+    → MarketConditions b day line scan basis → RestsOn b day line
+unfolding bookPhase
+rests-on b day line scan basis falls c =
+    let f = met-entry (newestTouching line (b .entries))
+    (open-met (isMetSheet (newestTouching line (b .entries))) (newestUnmet (sheetsOf line (b .entries))) (c .number12)) in
+    let n : newestDay (bookPast line (b .entries)) ≡ f .0 .day = newest-past line (b .entries) (f .0) (f .1) (f .2) in
+    record {
+      entry = f .0;
+      newest = f .1;
+      met = f .2;
+      earlier = omega (arith, n, newest-le (b .day) (bookPast line (b .entries)) falls, c .number2 .0);
+      atMost7 = omega (arith, n, c .number13);
+    }

@@ -1,0 +1,54 @@
+-- The sets of a text, gathered from its lines.
+use Prim.Native.Nat.{ℕ, _+_, _*_}
+use mathlib.Core.Path.{_≡_}
+use mathlib.Core.Bool.{cond}
+use mathlib.Core.List.{List, [], _∷_, _++_}
+use lib.IntN.{ℤ, pos}
+use lib.ListN.{length, take}
+use lib.Dec.{eqb}
+use Rattle.text_lines.specs.declared.ValueLine.{ValueLine}
+use Rattle.text_lines.specs.declared.LineRead.{LineRead}
+use Rattle.text_lines.specs.declared.LineRead.the-variants.{Values, Bad}
+use Rattle.text_gather.specs.declared.TextSet.{TextSet}
+
+-- a set of a text: its week and its results, original and monitor in turn
+pub record Gathered : Type 0 where
+  pub week : ℕ
+  pub numbers : List ℤ
+
+abbrev pub none : Gathered
+none = record { week = 0; numbers = [] }
+
+-- a line's pair
+abbrev pub pair : ValueLine → List ℤ
+pair v = pos (v .original) ∷ pos (v .monitor) ∷ []
+
+-- a line's pair added
+abbrev pub joined : Gathered → ValueLine → Gathered
+joined s v = record { week = v .week; numbers = s .numbers ++ pair v }
+
+-- a set under way is a set if it has any result
+unfoldable pub finished : Gathered → List Gathered
+finished s = cond (eqb (length (s .numbers)) 0) [] (s ∷ [])
+
+-- a line with sample 1 ends the set under way and begins the next; any other goes on with it
+unfoldable pub closed : Gathered → ValueLine → List Gathered
+closed s v = cond (eqb (v .sample) 1) (finished s) []
+
+unfoldable pub kept : Gathered → ValueLine → Gathered
+kept s v = cond (eqb (v .sample) 1) none s
+
+-- the sets of some lines, after a set under way
+unfoldable pub setsOf : Gathered → List LineRead → List Gathered
+setsOf s [] = finished s
+setsOf s (Bad ∷ ls) = finished s
+setsOf s (Values v next ∷ ls) = closed s v ++ setsOf (joined (kept s v) v) ls
+
+-- ---- what the code's set under way stands for
+unfoldable pub seen : TextSet → Gathered
+seen s = record { week = s .week; numbers = take (2 * s .count) (s .numbers) }
+
+pub record Grown (s : TextSet) (v : ValueLine) (r : TextSet) : Type 0 where
+  pub is : seen r ≡ joined (seen s) v
+  pub count : r .count ≡ s .count + 1
+  pub week : r .week ≡ v .week

@@ -1,0 +1,84 @@
+// A value line of a chart text judged after the line before it: numbers 18, 19 and 21.
+use text_lines::ValueLine;
+use whole::flags;
+ghost use mathlib.Core.Path.{_≡_};
+ghost use mathlib.Core.List.{[], _∷_};
+ghost use Prim.Native.Nat.{_≤_};
+ghost use lib.IntN.{pos};
+ghost use Rattle.chart_bounds.specs.Bounds.{badResult};
+ghost use Rattle.text_ruling.specs.Refusals.{numberOf};
+ghost use Rattle.text_ruling.specs.Rulings.{isNext, isStart, ruling};
+
+// Numbers 15 to 19, 21 and 22.
+pub enum TextRefusal {
+    TooLong,
+    BadNames,
+    BadLine,
+    BadSample,
+    BadWeek,
+    BadResult,
+    ShortBuffer,
+}
+
+// A refusal's number.
+pub fn number_of(refusal: TextRefusal) -> u32
+    ensures { λ r. ⌜ r ≡ numberOf refusal ⌝ }
+{
+    match refusal {
+        TextRefusal::TooLong => 15,
+        TextRefusal::BadNames => 16,
+        TextRefusal::BadLine => 17,
+        TextRefusal::BadSample => 18,
+        TextRefusal::BadWeek => 19,
+        TextRefusal::BadResult => 21,
+        TextRefusal::ShortBuffer => 22,
+    }
+}
+
+// A refusal with its text line, or none.
+pub enum Ruling {
+    Fine,
+    Refused(TextRefusal, u32),
+}
+
+// The line has the week before it and the next sample number up to 5.
+fn is_next(week: u32, sample: u32, v: ValueLine) -> bool
+    requires { ⌜ sample ≤ 5 ⌝ }
+    ensures { λ r. ⌜ r ≡ isNext week sample v ⌝ }
+{
+    let goes_on = flags::both(sample != 0, v.week == week);
+    let follows = flags::both(v.sample == sample + 1, v.sample <= 5);
+    flags::both(goes_on, follows)
+}
+
+// The line has another week and sample 1.
+fn is_start(week: u32, sample: u32, v: ValueLine) -> bool
+    ensures { λ r. ⌜ r ≡ isStart week sample v ⌝ }
+{
+    flags::both(flags::either(sample == 0, v.week != week), v.sample == 1)
+}
+
+// A result of the line lies outside 0..10000.
+fn bad_pair(v: ValueLine) -> bool
+    ensures { λ r. ⌜ r ≡ badResult (pos (v .original) ∷ pos (v .monitor) ∷ []) ⌝ }
+{
+    flags::either(10000 < v.original, 10000 < v.monitor)
+}
+
+// The first refusal that applies to a line after the line before it.
+pub fn rule(week: u32, sample: u32, line: u32, v: ValueLine) -> Ruling
+    requires { ⌜ sample ≤ 5 ⌝ }
+    ensures { λ r. ⌜ r ≡ ruling week sample line v ⌝ }
+{
+    let start = is_start(week, sample, v);
+    if !flags::either(is_next(week, sample, v), start) {
+        return Ruling::Refused(TextRefusal::BadSample, line);
+    }
+    if flags::both(start, chart_bounds::bad_week(week, v.week)) {
+        return Ruling::Refused(TextRefusal::BadWeek, line);
+    }
+    if bad_pair(v) {
+        return Ruling::Refused(TextRefusal::BadResult, line);
+    }
+    Ruling::Fine
+}
