@@ -2,11 +2,12 @@
 use abi_answers::GrainAnswer;
 use abi_chart::GrainCharted;
 use abi_chart::GrainWritten;
+use chart_rules::CHART_PLACES;
 ghost use mathlib.Core.Path.{_≡_};
 ghost use Rattle.abi_chart.specs.ChartAnswers.{chartOpenCall, chartSetCall, chartTextCall};
 
 #[no_mangle]
-pub extern "C" fn grain_chart_open(state: &mut [i32; 15], row: usize) -> GrainAnswer
+pub extern "C" fn grain_chart_open(state: &mut [i32; CHART_PLACES], row: usize) -> GrainAnswer
     ensures { λ r. ⌜ record { given = r; places = now (state .exit) } ≡ chartOpenCall row ⌝ }
 {
     abi_chart::opened(chart::open(state, row))
@@ -14,7 +15,7 @@ pub extern "C" fn grain_chart_open(state: &mut [i32; 15], row: usize) -> GrainAn
 
 #[no_mangle]
 pub extern "C" fn grain_chart_set(
-    state: &mut [i32; 15],
+    state: &mut [i32; CHART_PLACES],
     week: u32,
     numbers: &[i32],
     line: &mut [u8],

@@ -3,6 +3,7 @@ use abi_answers::GrainAnswer;
 use abi_station::GrainCertificate;
 use abi_station::GrainOutcome;
 use abi_station::GrainValue;
+use station_rules::STATION_PLACES;
 ghost use mathlib.Core.Path.{_≡_};
 ghost use Rattle.reading.specs.Reading.{answerOf};
 ghost use Rattle.abi_station.specs.StationAnswers.{scanOf, basisFor, readingGiven, openCall, sheetCall, repairCall, marketCall};
@@ -15,7 +16,7 @@ pub extern "C" fn grain_reading(percent: f32) -> GrainValue
 }
 
 #[no_mangle]
-pub extern "C" fn grain_open(state: &mut [i32; 47], row: usize) -> GrainAnswer
+pub extern "C" fn grain_open(state: &mut [i32; STATION_PLACES], row: usize) -> GrainAnswer
     ensures { λ r. ⌜ record { answer = r; places = now (state .exit) } ≡ openCall row ⌝ }
 {
     abi_station::opened(station::open(state, row))
@@ -23,7 +24,7 @@ pub extern "C" fn grain_open(state: &mut [i32; 47], row: usize) -> GrainAnswer
 
 #[no_mangle]
 pub extern "C" fn grain_sheet(
-    state: &mut [i32; 47],
+    state: &mut [i32; STATION_PLACES],
     day: u32,
     line: usize,
     numbers: &[i32],
@@ -34,7 +35,7 @@ pub extern "C" fn grain_sheet(
 }
 
 #[no_mangle]
-pub extern "C" fn grain_repair(state: &mut [i32; 47], day: u32) -> GrainAnswer
+pub extern "C" fn grain_repair(state: &mut [i32; STATION_PLACES], day: u32) -> GrainAnswer
     ensures { λ r. ⌜ record { answer = r; places = now (state .exit) } ≡ repairCall (now (state .entry)) day ⌝ }
 {
     abi_station::repaired(station::repair(state, day))
@@ -42,7 +43,7 @@ pub extern "C" fn grain_repair(state: &mut [i32; 47], day: u32) -> GrainAnswer
 
 #[no_mangle]
 pub extern "C" fn grain_market(
-    state: &mut [i32; 47],
+    state: &mut [i32; STATION_PLACES],
     day: u32,
     line: usize,
     scan_kind: u32,

@@ -5,17 +5,17 @@ use Prim.Native.Nat.{ℕ, _≤_}
 use native.Mathlib.Omega.{arith}
 use lib.IntN.{ℤ}
 use lib.ListN.{length}
-use Rattle.chart_places.specs.ChartPlaces.{chartAt}
-use Rattle.chart_line.specs.Lines.{lineOf}
-use Rattle.chart.specs.Calls.{resultOf, bytesOf, chartSetOf}
-use Rattle.chart.specs.InPlace.{chartSetIn}
-use Rattle.chart.specs.declared.ChartAnswer.{ChartAnswer}
-use Rattle.chart.specs.declared.ChartAnswer.the-variants.{Charted}
-use Rattle.chart.proofs.Charted.{line-fits, charted-length}
-use Rattle.text.specs.Texts.{answerOf, chartTextOf}
-use Rattle.text.specs.declared.TextAnswer.{TextAnswer}
-use Rattle.text.specs.declared.TextAnswer.the-variants.{Written}
-use Rattle.text.proofs.Charted.{program-fits}
+use Rattle.chart_rules.specs.Places.{chartAt}
+use Rattle.chart_rules.specs.Lines.{lineOf}
+use Rattle.chart_rules.specs.Calls.{resultOf, bytesOf, chartSetOf}
+use Rattle.chart_rules.specs.InPlace.{chartSetIn}
+use Rattle.chart_rules.specs.declared.ChartAnswer.{ChartAnswer}
+use Rattle.chart_rules.specs.declared.ChartAnswer.the-variants.{Charted}
+use Rattle.chart_rules.proofs.Charted.{line-fits, charted-length}
+use Rattle.chart_rules.specs.Output.{answerOf, chartTextOf}
+use Rattle.chart_rules.specs.declared.TextAnswer.{TextAnswer}
+use Rattle.chart_rules.specs.declared.TextAnswer.the-variants.{Written}
+use Rattle.chart_rules.proofs.GoodTexts.{program-fits}
 use Rattle.abi_chart.specs.ChartAnswers.{lineLength, textLength}
 
 pub line-length : (words : List ℤ) (week : ℕ) (numbers : List ℤ) (buffer : List ℕ) → lineLength (chartSetIn words week numbers buffer .answer) ≤ 40

@@ -5,16 +5,16 @@ use mathlib.Core.List.{List}
 use lib.IntN.{ℤ, pos}
 use Rattle.abi_answers.specs.Given.{accepted, refused}
 use Rattle.abi_answers.specs.declared.GrainAnswer.{GrainAnswer}
-use Rattle.chart_refusals.specs.Refusals.{numberOf}
-use Rattle.chart.specs.InPlace.{openIn, chartSetIn}
-use Rattle.chart.specs.declared.OpenAnswer.{OpenAnswer}
-use Rattle.chart.specs.declared.OpenAnswer.the-variants.{Opened}
-use Rattle.chart.specs.declared.ChartAnswer.{ChartAnswer}
-use Rattle.chart.specs.declared.ChartAnswer.the-variants.{Charted}
-use Rattle.text_ruling.specs.Refusals as texts
-use Rattle.text.specs.Texts.{chartTextOf}
-use Rattle.text.specs.declared.TextAnswer.{TextAnswer}
-use Rattle.text.specs.declared.TextAnswer.the-variants.{Written}
+use Rattle.chart_rules.specs.Refusals.{numberOf}
+use Rattle.chart_rules.specs.InPlace.{openIn, chartSetIn}
+use Rattle.chart_rules.specs.declared.OpenAnswer.{OpenAnswer}
+use Rattle.chart_rules.specs.declared.OpenAnswer.the-variants.{Opened}
+use Rattle.chart_rules.specs.declared.ChartAnswer.{ChartAnswer}
+use Rattle.chart_rules.specs.declared.ChartAnswer.the-variants.{Charted}
+use Rattle.chart_rules.specs.Judging.{textNumber}
+use Rattle.chart_rules.specs.Output.{chartTextOf}
+use Rattle.chart_rules.specs.declared.TextAnswer.{TextAnswer}
+use Rattle.chart_rules.specs.declared.TextAnswer.the-variants.{Written}
 use Rattle.abi_chart.specs.declared.GrainCharted.{GrainCharted}
 use Rattle.abi_chart.specs.declared.GrainWritten.{GrainWritten}
 
@@ -72,7 +72,7 @@ chartSetCall words week numbers line =
 -- ---- a whole text: the length of its output; or the refusal and its text line
 abbrev pub textGiven : TextAnswer → GrainWritten
 textGiven (Written n) = record { accepted = 1; number = 0; line = 0; length = n }
-textGiven (TextAnswer.Refused r line) = record { accepted = 0; number = texts.numberOf r; line = line; length = 0 }
+textGiven (TextAnswer.Refused r line) = record { accepted = 0; number = textNumber r; line = line; length = 0 }
 
 pub record TextLeft : Type 0 where
   pub given : GrainWritten

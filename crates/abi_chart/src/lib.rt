@@ -1,12 +1,12 @@
 // What the exported chart functions hand back: small structs of 32-bit numbers.
 use abi_answers::GrainAnswer;
-use chart::ChartAnswer;
-use chart::OpenAnswer;
-use chart_line::Values;
-use text::TextAnswer;
+use chart_rules::ChartAnswer;
+use chart_rules::OpenAnswer;
+use chart_rules::TextAnswer;
+use chart_rules::Values;
 ghost use mathlib.Core.Path.{_≡_};
 ghost use Prim.Native.Nat.{_≤_};
-ghost use Rattle.chart.specs.declared.ChartAnswer.the-variants.{Charted};
+ghost use Rattle.chart_rules.specs.declared.ChartAnswer.the-variants.{Charted};
 ghost use Rattle.abi_chart.specs.ChartAnswers.{openGiven, flagOf, setRefused, setGiven, textGiven, lineLength, textLength};
 
 // accepted is 1 or 0, number the refusal's; then what the set's output line says, the flags as 1 or 0, and its length in bytes.

@@ -7,6 +7,7 @@ use station_rules::CornSet;
 use station_rules::MarketAnswer;
 use station_rules::OpenAnswer;
 use station_rules::Outcome;
+use station_rules::Refusal;
 use station_rules::RepairAnswer;
 use station_rules::Scan;
 use station_rules::SheetAnswer;
@@ -48,12 +49,29 @@ pub struct GrainCertificate {
 
 // ---- asked
 
+// The kinds of scan; any other is a fault.
+const WHEAT_SCAN: u32 = 0;
+
+const CORN_SCAN: u32 = 1;
+
+// The kinds of basis.
+const STANDARD_BASIS: u32 = 0;
+
+const DRY_BASIS: u32 = 1;
+
+const SPECIFIED_BASIS: u32 = 2;
+
+const AS_IS_BASIS: u32 = 3;
+
+// What a kind of basis that there isn't asks for: number 10 refuses it.
+const NO_BASIS: i32 = -1;
+
 pub fn scan_of(kind: u32, first: f32, second: f32, third: f32) -> Scan
     ensures { λ r. ⌜ r ≡ scanOf kind first second third ⌝ }
 {
     match kind {
-        0 => Scan::Wheat(first),
-        1 => Scan::Corn(CornSet {
+        WHEAT_SCAN => Scan::Wheat(first),
+        CORN_SCAN => Scan::Corn(CornSet {
             protein: first,
             oil: second,
             starch: third,
@@ -65,13 +83,13 @@ pub fn scan_of(kind: u32, first: f32, second: f32, third: f32) -> Scan
 pub fn basis_for(kind: u32, b: i32) -> Basis
     ensures { λ r. ⌜ r ≡ basisFor kind b ⌝ }
 {
-    if 3 < kind {
-        return Basis::Specified(-1);
+    if AS_IS_BASIS < kind {
+        return Basis::Specified(NO_BASIS);
     }
     match kind {
-        0 => Basis::Standard,
-        1 => Basis::Dry,
-        2 => Basis::Specified(b),
+        STANDARD_BASIS => Basis::Standard,
+        DRY_BASIS => Basis::Dry,
+        SPECIFIED_BASIS => Basis::Specified(b),
         _ => Basis::AsIs(b),
     }
 }
@@ -89,7 +107,7 @@ pub fn read(r: Reading) -> GrainValue
         },
         Reading::Refused => GrainValue {
             accepted: 0,
-            number: 9,
+            number: station_refusals::number(Refusal::BadFloat),
             hundredths: 0,
         },
     }

@@ -1,5 +1,7 @@
-// Paper 01's chart cases that carry no star, run: four sets of sum 51 are a run, four of 50 are none. Each set's output line is written.
-use chart::ChartAnswer;
+// The chart cases that carry no star, run: four sets of sum 51 are a run, four of 50 are none. Each set's output line is written.
+use chart_rules::CHART_PLACES;
+use chart_rules::ChartAnswer;
+use chart_rules::LINE_ROOM;
 use libc::STDOUT_FILENO;
 
 // Writes the first k bytes.
@@ -10,8 +12,8 @@ fn print_front(bytes: &[u8], k: usize) {
 }
 
 // One set charted, and its line written.
-fn charted(state: &mut [i32; 15], week: u32, numbers: &[i32]) {
-    let mut out = [0u8; 40];
+fn charted(state: &mut [i32; CHART_PLACES], week: u32, numbers: &[i32]) {
+    let mut out = [0u8; LINE_ROOM];
     match chart::chart_set(state, week, numbers, &mut out) {
         ChartAnswer::Charted(_, length) => print_front(&out, length),
         ChartAnswer::Refused(_) => {
@@ -22,7 +24,7 @@ fn charted(state: &mut [i32; 15], week: u32, numbers: &[i32]) {
 
 // The same set in weeks 1 to 4, on a fresh chart of wheat.
 fn four(numbers: &[i32]) {
-    let mut state = [0i32; 15];
+    let mut state = [0i32; CHART_PLACES];
     chart::open(&mut state, 0);
     charted(&mut state, 1, numbers);
     charted(&mut state, 2, numbers);

@@ -1,5 +1,6 @@
 // Whole lists of calls, each on the places that the call before left.
 use super::calls;
+use super::calls::Places;
 use super::say;
 use super::sheets;
 use station_rules::Basis;
@@ -7,7 +8,7 @@ use station_rules::CornSet;
 use station_rules::Scan;
 
 // Adjusted by S 122, not open, opened by its check, certified with the new intercept.
-pub(crate) fn adjusted() -> [i32; 47] {
+pub(crate) fn adjusted() -> Places {
     say::heading(b"adjust, check, certify");
     let new = calls::open(0);
     let due = calls::but_last(new, 1, 1010, [1011, 1011, -1]);
@@ -17,7 +18,7 @@ pub(crate) fn adjusted() -> [i32; 47] {
 }
 
 // A day before the last, a repair, not open, opened by a sheet.
-pub(crate) fn repaired(s: [i32; 47]) {
+pub(crate) fn repaired(s: Places) {
     say::heading(b"a day before the last, repair, check, certify");
     let early = calls::but_last(s, 2, 1010, [1011, 1011, -1]);
     let new = calls::repair(early, 4);
@@ -58,7 +59,7 @@ pub(crate) fn corn() {
     corn_tests(starch);
 }
 
-fn corn_tests(s: [i32; 47]) {
+fn corn_tests(s: Places) {
     say::heading(b"corn certified: oil, starch; protein is new");
     let set = CornSet {
         protein: 8.5,

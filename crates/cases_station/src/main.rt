@@ -1,16 +1,16 @@
-// Paper 01's cases that carry no star, each number of refusal once, and whole lists of calls: each call is run, and its answer printed.
+// The cases that carry no star, each number of refusal once, and whole lists of calls: each call is run, and its answer printed.
 mod calls;
 mod lists;
 mod numbers;
-mod paper;
 mod say;
 mod sheets;
+mod worked;
 
 fn main() {
-    paper::deviations();
-    paper::adjustments();
-    paper::figures();
-    paper::days_and_bases();
+    worked::deviations();
+    worked::adjustments();
+    worked::figures();
+    worked::days_and_bases();
     numbers::stations();
     numbers::sizes();
     numbers::sheet_numbers();

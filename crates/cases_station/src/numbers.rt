@@ -1,5 +1,6 @@
 // Each number of refusal once, 0 to 14 in their order.
 use super::calls;
+use super::calls::Places;
 use super::say;
 use station_rules::Basis;
 use station_rules::Scan;
@@ -29,7 +30,7 @@ pub(crate) fn sheet_numbers() {
     calls::but_last(s, 1, 1000, [1051, 1051, -1]);
 }
 
-pub(crate) fn scans() -> [i32; 47] {
+pub(crate) fn scans() -> Places {
     say::heading(
         b"numbers 8 to 11 on a line that an S of 132 left check due: fault 0; above 100; basis -1; h -11",
     );
@@ -40,7 +41,7 @@ pub(crate) fn scans() -> [i32; 47] {
     calls::market(due, 1, Scan::Wheat(0.0), Basis::Dry)
 }
 
-pub(crate) fn lines(due: [i32; 47]) {
+pub(crate) fn lines(due: Places) {
     say::heading(b"numbers 12 to 14: check due; checked; a set 8 days old; h 8801 dry");
     calls::market(due, 1, Scan::Wheat(12.0), Basis::Dry);
     let open = calls::alike(due, 1, 1000, 1011);

@@ -1,20 +1,27 @@
-// Sheets of numbers: baseline, first, second, third, again-first, again-second for each sample; -1 is "not measured".
+// Sheets of numbers: baseline, first, second, third, again-first, again-second for each sample.
+use station_rules::NOT_MEASURED;
+use station_rules::SAMPLE_NUMBERS;
+
+// The numbers of a wheat sheet, six samples, and of a corn sheet, four.
+pub(crate) const WHEAT_NUMBERS: usize = 6 * SAMPLE_NUMBERS;
+
+pub(crate) const CORN_NUMBERS: usize = 4 * SAMPLE_NUMBERS;
 
 // Wheat: six samples with the same baseline and results.
-pub(crate) fn wheat(baseline: i32, result: i32) -> [i32; 36] {
-    let mut numbers = [-1; 36];
+pub(crate) fn wheat(baseline: i32, result: i32) -> [i32; WHEAT_NUMBERS] {
+    let mut numbers = [NOT_MEASURED; WHEAT_NUMBERS];
     let mut i = 0;
     while i < 6 {
-        numbers[6 * i] = baseline;
-        numbers[6 * i + 1] = result;
-        numbers[6 * i + 2] = result;
+        numbers[SAMPLE_NUMBERS * i] = baseline;
+        numbers[SAMPLE_NUMBERS * i + 1] = result;
+        numbers[SAMPLE_NUMBERS * i + 2] = result;
         i += 1;
     }
     numbers
 }
 
 // Wheat, baseline 1000: five samples with the same results; the last with another first, second and again results.
-pub(crate) fn but_last(result: i32, last: [i32; 3]) -> [i32; 36] {
+pub(crate) fn but_last(result: i32, last: [i32; 3]) -> [i32; WHEAT_NUMBERS] {
     let mut numbers = wheat(1000, result);
     numbers[31] = last[0];
     numbers[32] = last[1];
@@ -24,25 +31,25 @@ pub(crate) fn but_last(result: i32, last: [i32; 3]) -> [i32; 36] {
 }
 
 // Wheat, baseline 1000: five samples with one result and the last with another, and again.
-pub(crate) fn apart(result: i32, last: i32) -> [i32; 36] {
+pub(crate) fn apart(result: i32, last: i32) -> [i32; WHEAT_NUMBERS] {
     let mut numbers = but_last(result, [last, last, last]);
     let mut i = 0;
     while i < 5 {
-        numbers[6 * i + 4] = result;
-        numbers[6 * i + 5] = result;
+        numbers[SAMPLE_NUMBERS * i + 4] = result;
+        numbers[SAMPLE_NUMBERS * i + 5] = result;
         i += 1;
     }
     numbers
 }
 
 // Corn, baseline 1000: four samples with the same results.
-pub(crate) fn corn(result: i32) -> [i32; 24] {
-    let mut numbers = [-1; 24];
+pub(crate) fn corn(result: i32) -> [i32; CORN_NUMBERS] {
+    let mut numbers = [NOT_MEASURED; CORN_NUMBERS];
     let mut i = 0;
     while i < 4 {
-        numbers[6 * i] = 1000;
-        numbers[6 * i + 1] = result;
-        numbers[6 * i + 2] = result;
+        numbers[SAMPLE_NUMBERS * i] = 1000;
+        numbers[SAMPLE_NUMBERS * i + 1] = result;
+        numbers[SAMPLE_NUMBERS * i + 2] = result;
         i += 1;
     }
     numbers

@@ -1,20 +1,24 @@
--- What the answer of an accepted call says of the call.
-use mathlib.Core.Path.{_≡_, sym, ap, subst}
+-- What the code has at hand of a call that is not refused: its set fits, and what its answer says of it.
+use mathlib.Core.Path.{_≡_, sym, ap}
 use mathlib.Core.List.{List}
-use Prim.Native.Nat.{ℕ, _+_}
+use Prim.Native.Nat.{ℕ}
 use native.Mathlib.Omega.{arith}
 use lib.IntN.{ℤ}
-use lib.ListN.{length}
-use Rattle.decimal.specs.Put.{Put}
-use Rattle.chart_sets.specs.Sets.{setOf}
-use Rattle.chart_state.specs.declared.Chart.{Chart}
-use Rattle.chart_line.specs.Lines.{valuesOf, setIn}
-use Rattle.chart_line.specs.declared.Values.{Values}
-use Rattle.chart_refusals.proofs.Fine.{FineCall}
-use Rattle.chart.specs.Calls.{accepted, resultOf, bytesOf}
-use Rattle.chart.specs.declared.ChartAnswer.{ChartAnswer}
-use Rattle.chart.specs.declared.ChartAnswer.the-variants.{Charted}
-use Rattle.chart.proofs.Soundness.{call-cases}
+use Rattle.chart_rules.specs.Sets.{setOf}
+use Rattle.chart_rules.specs.Lines.{valuesOf}
+use Rattle.chart_sets.specs.Fits.{SetFits}
+use Rattle.chart_line.specs.Values.{setIn}
+use Rattle.chart_rules.specs.Calls.{accepted, resultOf}
+use Rattle.chart_rules.specs.declared.Chart.{Chart}
+use Rattle.chart_rules.specs.declared.Values.{Values}
+use Rattle.chart_rules.specs.declared.ChartAnswer.the-variants.{Charted}
+use Rattle.chart_sets.proofs.Fits.{set-fits}
+use Rattle.chart_rules.proofs.Fine.{FineCall}
+use Rattle.chart_rules.proofs.Calls.{call-cases, fine-sound}
+
+-- the set of a call that is not refused fits
+pub fine-set : (c : Chart) (week : ℕ) (numbers : List ℤ) (room : ℕ) → FineCall c week numbers room → SetFits (setOf numbers)
+fine-set c week numbers room f = set-fits (setOf numbers) (fine-sound c week numbers room f)
 
 pub record AcceptedCall (c : Chart) (week : ℕ) (numbers : List ℤ) (room : ℕ) (v : Values) : Type 0 where
   pub fine : FineCall c week numbers room
@@ -33,7 +37,3 @@ module _ (c : Chart) (week : ℕ) (numbers : List ℤ) (room : ℕ) where
       (λ f e. let same : valuesOf c week (setOf numbers) ≡ v = cc in (f, set-in v same)) in
       let h = g e in
       record { fine = h .0; set = h .1 }
-
--- what was written by an answer, where the answer is known
-pub put-by : {old new : List ℕ} {at : ℕ} {a b : ChartAnswer} → a ≡ b → Put old at (bytesOf a) new (at + length (bytesOf a)) → Put old at (bytesOf b) new (at + length (bytesOf b))
-put-by {old} {new} {at} e = subst (λ (x : ChartAnswer). Put old at (bytesOf x) new (at + length (bytesOf x))) e

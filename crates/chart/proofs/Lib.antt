@@ -1,5 +1,2 @@
-pub mod Soundness
-pub mod Charted
 pub mod Accepted
-pub mod InPlace
-pub mod Cases
+pub mod Ready

@@ -1,38 +1,34 @@
 // Control charts: opening, and one set charted.
-use chart_line::Values;
-use chart_refusals::Judgement;
-use chart_refusals::Refusal;
-use chart_state::Chart;
+use chart_rules::CHART_PLACES;
+use chart_rules::Chart;
+use chart_rules::ChartAnswer;
+use chart_rules::Judgement;
+use chart_rules::OpenAnswer;
+use chart_rules::ROWS;
+use chart_rules::Refusal;
+use chart_rules::Values;
 ghost use mathlib.Core.Path.{_≡_};
 ghost use Prim.Native.Nat.{_+_, _-_, _≤_};
 ghost use lib.ListN.{length};
 ghost use Rattle.decimal.specs.Put.{Put};
-ghost use Rattle.chart.specs.Calls.{resultOf, bytesOf};
-ghost use Rattle.chart_places.specs.ChartPlaces.{chartAt};
-ghost use Rattle.chart.specs.InPlace.{openIn, leftBy, chartSetIn};
+ghost use Rattle.chart_rules.specs.Calls.{resultOf, bytesOf};
+ghost use Rattle.chart_rules.specs.Places.{chartAt};
+ghost use Rattle.chart_rules.specs.InPlace.{openIn, leftBy, chartSetIn};
 
-pub enum OpenAnswer {
-    Opened,
-    Refused(Refusal),
-}
-
-// The values of the output line and its length in bytes; or a refusal.
-pub enum ChartAnswer {
-    Charted(Values, usize),
-    Refused(Refusal),
-}
+// The rows as an index.
+const CHART_ROWS: usize = ROWS as usize;
 
 // ---- opening
 
 // A fresh chart of a row; a refused opening leaves one of row 0.
-pub fn open(state: &mut [i32; 15], row: usize) -> OpenAnswer
+pub fn open(state: &mut [i32; CHART_PLACES], row: usize) -> OpenAnswer
     ensures { λ r. ⌜ record { answer = r; places = now (state .exit) } ≡ openIn row ⌝ }
 {
-    if row < 4 {
-        chart_places::put_fresh(state, row as u32);
+    if row < CHART_ROWS {
+        chart_state::put_fresh(state, row as u32);
         return OpenAnswer::Opened;
     }
-    chart_places::put_fresh(state, 0);
+    chart_state::put_fresh(state, 0);
     OpenAnswer::Refused(Refusal::UnknownRow)
 }
 
@@ -69,11 +65,11 @@ pub fn chart_set_at(
     ensures { λ r. ⌜ now (state .exit) ≡ leftBy r (now (state .entry)) week (now (numbers .entry)) ⌝ }
     ensures { λ r. ⌜ Put (now (out .entry)) at (bytesOf r) (now (out .exit)) (at + length (bytesOf r)) ⌝ }
 {
-    let chart = chart_places::chart_at(state);
+    let chart = chart_state::chart_at(state);
     match answer_at(chart, week, numbers, out, at) {
         ChartAnswer::Refused(refusal) => ChartAnswer::Refused(refusal),
         ChartAnswer::Charted(values, length) => {
-            chart_places::put_next(state, week, chart_line::set_in(values));
+            chart_state::put_next(state, week, chart_line::set_in(values));
             ChartAnswer::Charted(values, length)
         }
     }

@@ -1,8 +1,14 @@
 // Numbers 19 to 21: a set's week, size and results.
+use chart_rules::LARGEST_RESULT;
+use chart_rules::LAST_WEEK;
+use chart_rules::MOST_NUMBERS;
 use whole::Int;
 use whole::flags;
 ghost use mathlib.Core.Path.{_≡_};
-ghost use Rattle.chart_bounds.specs.Bounds.{badWeek, badSize, outside as outsideOf, badResult};
+ghost use Rattle.chart_rules.specs.Refusals.{badWeek, badSize, outside as outsideOf, badResult};
+
+// The largest result as a signed number.
+const LARGEST: i32 = LARGEST_RESULT as i32;
 
 // A result outside 0..10000.
 fn outside(x: Int) -> bool
@@ -10,7 +16,7 @@ fn outside(x: Int) -> bool
 {
     flags::either(
         whole::less(x, Int { z: 0 }),
-        whole::less(Int { z: 10000 }, x),
+        whole::less(Int { z: LARGEST }, x),
     )
 }
 
@@ -31,12 +37,12 @@ pub fn bad_result(numbers: &[i32]) -> bool
 pub fn bad_size(n: usize) -> bool
     ensures { λ r. ⌜ r ≡ badSize n ⌝ }
 {
-    flags::either(flags::either(n == 0, 10 < n), n % 2 == 1)
+    flags::either(flags::either(n == 0, MOST_NUMBERS < n), n % 2 == 1)
 }
 
 // Number 19: the week isn't above the chart's last or is above 9999.
 pub fn bad_week(last: u32, week: u32) -> bool
     ensures { λ r. ⌜ r ≡ badWeek last week ⌝ }
 {
-    flags::either(week <= last, 9999 < week)
+    flags::either(week <= last, LAST_WEEK < week)
 }

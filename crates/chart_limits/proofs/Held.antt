@@ -7,8 +7,8 @@ use native.Mathlib.Nat.{le-trans, mul-le-mul-left, mul-le-mul-right}
 use native.Mathlib.Omega.{arith}
 use lib.ListN.{length, take, getD}
 use lib.Dec.{leb}
-use Rattle.chart_sets.specs.declared.ChartSet.{ChartSet}
-use Rattle.chart_limits.specs.Rules.{tolerance, atOrAbove, atOrBelow, rangeTolerance}
+use Rattle.chart_rules.specs.Limits.{tolerance, atOrAbove, atOrBelow, rangeTolerance}
+use Rattle.chart_rules.specs.declared.ChartSet.{ChartSet}
 
 -- a limit times a count
 pub scaled-small : (a b : ℕ) → a ≤ 1000 → b ≤ 5 → a * b ≤ 5000

@@ -8,8 +8,9 @@ use lib.Dec.{leb}
 use borrow.Author.Tests.{leb-true}
 use Rattle.whole.specs.Lists.{all}
 use Rattle.whole.proofs.Tests.{and-both}
-use Rattle.chart_limits.specs.Rows.{limits, rows, limitsOf, SmallLimits}
-use Rattle.chart_limits.specs.declared.Limits.{Limits}
+use Rattle.chart_rules.specs.Rows.{limits, rows, limitsOf}
+use Rattle.chart_limits.specs.Small.{SmallLimits}
+use Rattle.chart_rules.specs.declared.Limits.{Limits}
 
 -- what passes of every element and of the default passes of any place
 all-at : {A : Type 0} (p : A → Bool) (d : A) (l : List A) (i : ℕ) → p d ≡ true → all p l ≡ true → p (getD l i d) ≡ true

@@ -1,24 +1,17 @@
 // The chart rules: a row's limits, and the absolute and tolerance limits of a set after the sets before it.
-use chart_sets::ChartSet;
+use chart_rules::ChartSet;
+use chart_rules::HELD_SETS;
+use chart_rules::Limits;
 use whole::flags;
 ghost use mathlib.Core.Path.{_≡_};
 ghost use mathlib.Core.Bool.{_&&_, _||_};
 ghost use Prim.Native.Nat.{_≤_};
 ghost use lib.ListN.{take};
-ghost use Rattle.chart_sets.specs.Soundness.{SetFits, AllFit};
-ghost use Rattle.chart_limits.specs.Rows.{limitsOf};
-ghost use Rattle.chart_limits.specs.Rules.{atOrAbove, atOrBelow, absolute as absoluteOf, tolerance as toleranceOf, rangeTolerance};
+ghost use Rattle.chart_sets.specs.Fits.{SetFits, AllFit};
+ghost use Rattle.chart_rules.specs.Rows.{limitsOf};
+ghost use Rattle.chart_rules.specs.Limits.{atOrAbove, atOrBelow, absolute as absoluteOf, tolerance as toleranceOf, rangeTolerance};
 
-// A row's limits: of the average absolute, tolerance and run; of the range absolute and tolerance.
-pub struct Limits {
-    pub al: u32,
-    pub tl: u32,
-    pub run: u32,
-    pub ral: u32,
-    pub rtl: u32,
-}
-
-// Limits from their numbers, in the order of the paper's rows.
+// Limits from their numbers, in the order of the table's columns.
 fn limits_from(al: u32, tl: u32, run: u32, ral: u32, rtl: u32) -> Limits
     ensures { λ r. ⌜ r ≡ record { al = al; tl = tl; run = run; ral = ral; rtl = rtl } ⌝ }
 {
@@ -83,7 +76,7 @@ fn both_beyond(limit: u32, s: ChartSet, p: ChartSet) -> bool
 }
 
 // This set and the one before it, the newest of the held ones.
-pub fn tolerance(limit: u32, s: ChartSet, held: u32, sets: [ChartSet; 4]) -> bool
+pub fn tolerance(limit: u32, s: ChartSet, held: u32, sets: [ChartSet; HELD_SETS]) -> bool
     requires { ⌜ (limit ≤ 1000) × (SetFits s × AllFit (take held sets)) ⌝ }
     ensures { λ r. ⌜ r ≡ toleranceOf limit s (take held sets) ⌝ }
 {
@@ -93,7 +86,7 @@ pub fn tolerance(limit: u32, s: ChartSet, held: u32, sets: [ChartSet; 4]) -> boo
     both_beyond(limit, s, sets[0])
 }
 
-pub fn range_tolerance(limit: u32, s: ChartSet, held: u32, sets: [ChartSet; 4]) -> bool
+pub fn range_tolerance(limit: u32, s: ChartSet, held: u32, sets: [ChartSet; HELD_SETS]) -> bool
     ensures { λ r. ⌜ r ≡ rangeTolerance limit s (take held sets) ⌝ }
 {
     if held == 0 {

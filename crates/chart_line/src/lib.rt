@@ -1,26 +1,15 @@
 // A set's output line: what it says, and its bytes.
-use chart_sets::ChartSet;
-use chart_state::Chart;
+use chart_rules::Chart;
+use chart_rules::ChartSet;
+use chart_rules::Values;
 ghost use mathlib.Core.Path.{_≡_};
 ghost use Prim.Native.Nat.{_+_, _≤_};
 ghost use lib.ListN.{length};
 ghost use Rattle.decimal.specs.Put.{Put};
-ghost use Rattle.chart_sets.specs.Soundness.{SetFits, AllFit};
-ghost use Rattle.chart_state.specs.Charts.{pastOf};
-ghost use Rattle.chart_line.specs.Lines.{valuesOf, setIn, flagBytes, lineOf, FiveDigits};
-
-// What an output line says.
-pub struct Values {
-    pub week: u32,
-    pub count: u32,
-    pub sum: i32,
-    pub range: u32,
-    pub al: bool,
-    pub tl: bool,
-    pub run: bool,
-    pub ral: bool,
-    pub rtl: bool,
-}
+ghost use Rattle.chart_sets.specs.Fits.{SetFits, AllFit};
+ghost use Rattle.chart_rules.specs.Charts.{pastOf};
+ghost use Rattle.chart_rules.specs.Lines.{valuesOf, lineOf};
+ghost use Rattle.chart_line.specs.Values.{setIn, flagBytes, SmallValues};
 
 // What the set's output line says.
 pub fn values_of(chart: Chart, week: u32, s: ChartSet) -> Values
@@ -73,7 +62,7 @@ fn put_flags(out: &mut [u8], at: usize, v: Values) -> usize
 
 // The output line from position at on, line feed included: the position behind it.
 pub fn write_values(out: &mut [u8], at: usize, v: Values) -> usize
-    requires { ⌜ (at + 40 ≤ length (now out)) × FiveDigits v ⌝ }
+    requires { ⌜ (at + 40 ≤ length (now out)) × SmallValues v ⌝ }
     ensures { λ r. ⌜ (Put (now (out .entry)) at (lineOf v) (now (out .exit)) r) × (r ≤ at + 40) ⌝ }
 {
     let a = decimal::put_number(out, at, v.week);
@@ -81,6 +70,5 @@ pub fn write_values(out: &mut [u8], at: usize, v: Values) -> usize
     let c = decimal::put_signed(out, b, v.sum);
     let d = decimal::put_field(out, c, v.range);
     let e = put_flags(out, d, v);
-    let feed = b"\n";
-    decimal::put_bytes(out, e, feed)
+    decimal::put_byte(out, e, b'\n')
 }

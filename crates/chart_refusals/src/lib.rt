@@ -1,20 +1,12 @@
 // Which refusal applies to a call that charts one set.
-use chart_state::Chart;
+use chart_rules::Chart;
+use chart_rules::Judgement;
+use chart_rules::LINE_ROOM;
+use chart_rules::Refusal;
 ghost use mathlib.Core.Path.{_≡_};
-ghost use Rattle.chart_refusals.specs.Refusals.{numberOf};
-ghost use Rattle.chart_refusals.specs.Checks.{refusalOf};
+ghost use Rattle.chart_rules.specs.Refusals.{numberOf, refusalOf};
 
-// Numbers 0, 1 and 19 to 22.
-pub enum Refusal {
-    UnsoundChart,
-    UnknownRow,
-    BadWeek,
-    BadSize,
-    BadResult,
-    ShortBuffer,
-}
-
-// The paper's number of a refusal.
+// A refusal's number.
 pub fn number_of(refusal: Refusal) -> u32
     ensures { λ r. ⌜ r ≡ numberOf refusal ⌝ }
 {
@@ -26,11 +18,6 @@ pub fn number_of(refusal: Refusal) -> u32
         Refusal::BadResult => 21,
         Refusal::ShortBuffer => 22,
     }
-}
-
-pub enum Judgement {
-    Fine,
-    Refused(Refusal),
 }
 
 // The first refusal that applies, for a buffer with room for so many bytes.
@@ -49,7 +36,7 @@ pub fn judge_call(chart: Chart, week: u32, numbers: &[i32], room: usize) -> Judg
     if chart_bounds::bad_result(numbers) {
         return Judgement::Refused(Refusal::BadResult);
     }
-    if room < 40 {
+    if room < LINE_ROOM {
         return Judgement::Refused(Refusal::ShortBuffer);
     }
     Judgement::Fine

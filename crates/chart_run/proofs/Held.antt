@@ -6,10 +6,10 @@ use Prim.Native.Nat.{ℕ, zero, suc, _≤_, _<_}
 use native.Mathlib.Omega.{arith}
 use lib.ListN.{length, take, getD}
 use Rattle.whole.proofs.Tests.{or-false}
-use Rattle.chart_sets.specs.Soundness.{SetFits, AllFit}
-use Rattle.chart_sets.proofs.Soundness.{fit-at}
-use Rattle.chart_sets.specs.declared.ChartSet.{ChartSet}
-use Rattle.chart_run.specs.Run.{runBy, run}
+use Rattle.chart_sets.specs.Fits.{SetFits, AllFit}
+use Rattle.chart_rules.specs.Run.{runBy, run}
+use Rattle.chart_rules.specs.declared.ChartSet.{ChartSet}
+use Rattle.chart_sets.proofs.Fits.{fit-at}
 
 -- the sets that a run is made of fit
 pub three-fit : (d : ChartSet) (n : ℕ) (l : List ChartSet) → 3 ≤ n → length l ≡ 4 → AllFit (take n l) → SetFits (getD l 0 d) × SetFits (getD l 1 d) × SetFits (getD l 2 d)

@@ -1,5 +1,6 @@
 // The run of the average: this set and three of the four before it.
-use chart_sets::ChartSet;
+use chart_rules::ChartSet;
+use chart_rules::HELD_SETS;
 use whole::Int;
 use whole::flags;
 ghost use mathlib.Core.Path.{_≡_};
@@ -7,18 +8,18 @@ ghost use mathlib.Core.List.{[], _∷_, map};
 ghost use Prim.Native.Nat.{_≤_};
 ghost use lib.ListN.{take};
 ghost use Rattle.whole.specs.Parts.{Within};
-ghost use Rattle.whole.specs.Lists.{total};
-ghost use Rattle.chart_sets.specs.Soundness.{SetFits, AllFit};
-ghost use Rattle.chart_run.specs.Run.{above as aboveOf, below as belowOf, sixtieths as sixtiethsOf, oneSide, runBy, run as runOf};
+ghost use Rattle.whole.specs.Lists.{total, above as aboveOf, below as belowOf};
+ghost use Rattle.chart_sets.specs.Fits.{SetFits, AllFit};
+ghost use Rattle.chart_rules.specs.Run.{sixtieths as sixtiethsOf, oneSide, runBy, run as runOf};
 
 fn above(s: ChartSet) -> bool
-    ensures { λ r. ⌜ r ≡ aboveOf s ⌝ }
+    ensures { λ r. ⌜ r ≡ aboveOf (s .sum) ⌝ }
 {
     whole::less(Int { z: 0 }, chart_sets::sum_of(s))
 }
 
 fn below(s: ChartSet) -> bool
-    ensures { λ r. ⌜ r ≡ belowOf s ⌝ }
+    ensures { λ r. ⌜ r ≡ belowOf (s .sum) ⌝ }
 {
     whole::less(chart_sets::sum_of(s), Int { z: 0 })
 }
@@ -72,7 +73,7 @@ fn run_by(limit: u32, s: ChartSet, p: ChartSet, q: ChartSet, w: ChartSet) -> boo
 }
 
 // This set and any three of the held ones.
-pub fn run(limit: u32, s: ChartSet, held: u32, sets: [ChartSet; 4]) -> bool
+pub fn run(limit: u32, s: ChartSet, held: u32, sets: [ChartSet; HELD_SETS]) -> bool
     requires { ⌜ (limit ≤ 1000) × (SetFits s × AllFit (take held sets)) ⌝ }
     ensures { λ r. ⌜ r ≡ runOf limit s (take held sets) ⌝ }
 {

@@ -1,3 +1,2 @@
-pub mod Flags
-pub mod Sums
-pub mod Soundness
+pub mod Fits
+pub mod Tallies

@@ -1,3 +1,2 @@
-pub mod Sets
-pub mod Soundness
 pub mod Tallies
+pub mod Fits

@@ -1,9 +1,9 @@
--- The tally by which the code takes one difference after another.
+-- For the proofs of the code, no rule: the tally by which it takes one difference after another.
 use mathlib.Core.Path.{_≡_}
 use mathlib.Core.List.{List}
 use lib.IntN.{ℤ, _+ℤ_}
 use Rattle.whole.specs.Lists.{total, largerOf, smallerOf, largest, smallest}
-use Rattle.chart_sets.specs.Sets.{differences}
+use Rattle.chart_rules.specs.Sets.{differences}
 use Rattle.chart_sets.specs.declared.Tally.{Tally}
 
 -- a tally with the difference d more

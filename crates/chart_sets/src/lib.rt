@@ -1,4 +1,8 @@
 // A set of a control chart: its pairs of results turned into count, sum and range.
+use chart_rules::ChartSet;
+use chart_rules::LARGEST_RANGE;
+use chart_rules::LARGEST_RESULT;
+use chart_rules::MOST_PAIRS;
 use whole::Int;
 use whole::flags;
 ghost use mathlib.Core.Path.{_≡_};
@@ -6,17 +10,10 @@ ghost use mathlib.Core.Bool.{false};
 ghost use lib.IntN.{_-ℤ_};
 ghost use lib.ListN.{length};
 ghost use Rattle.whole.specs.Parts.{Within};
-ghost use Rattle.chart_bounds.specs.Bounds.{badSize, badResult};
-ghost use Rattle.chart_sets.specs.Sets.{setOf};
-ghost use Rattle.chart_sets.specs.Soundness.{soundSet};
+ghost use Rattle.chart_rules.specs.Refusals.{badSize, badResult};
+ghost use Rattle.chart_rules.specs.Sets.{setOf};
+ghost use Rattle.chart_rules.specs.Charts.{soundSet};
 ghost use Rattle.chart_sets.specs.Tallies.{stepOf, Tallied};
-
-// A set: the number of its pairs, the sum of its differences, the largest difference minus the smallest.
-pub struct ChartSet {
-    pub count: u32,
-    pub sum: i32,
-    pub range: u32,
-}
 
 // The sum, the largest and the smallest of some differences.
 struct Tally {
@@ -100,11 +97,11 @@ pub fn sound_set(s: ChartSet) -> bool
     if count < 1 {
         return false;
     }
-    if 5 < count {
+    if MOST_PAIRS < count {
         return false;
     }
     flags::both(
-        whole::size_at_most(sum_of(s), 10000 * count),
-        s.range <= 20000,
+        whole::size_at_most(sum_of(s), LARGEST_RESULT * count),
+        s.range <= LARGEST_RANGE,
     )
 }

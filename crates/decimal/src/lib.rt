@@ -22,11 +22,11 @@ pub fn put_number(out: &mut [u8], at: usize, n: u32) -> usize
     ensures { λ r. ⌜ Put (now (out .entry)) at (show n) (now (out .exit)) r ⌝ }
 {
     if n < 10 {
-        out[at] = 48 + n as u8;
+        out[at] = b'0' + n as u8;
         return at + 1;
     }
     let next = put_number(out, at, n / 10);
-    out[next] = 48 + (n % 10) as u8;
+    out[next] = b'0' + (n % 10) as u8;
     next + 1
 }
 

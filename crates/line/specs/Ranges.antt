@@ -1,4 +1,4 @@
--- What a sound station's line gives, so that nothing wraps (paper 01, "Refused calls").
+-- For the proofs of the code, no rule: what a sound station's line gives, so that nothing wraps (docs/SPECIFICATION.md, "Refused calls").
 use Prim.Native.Nat.{ℕ, _≤_, _<_}
 use lib.Dec.{T}
 use lib.ListN.{take}

@@ -1,4 +1,4 @@
--- Steps on the way to a line's places after a sheet or a repair: what the functions that write them cite.
+-- For the proofs of the code, no rule: steps on the way to a line's places after a sheet or a repair: what the functions that write them cite.
 use mathlib.Core.Bool.{cond}
 use mathlib.Core.List.{List, _∷_}
 use lib.Dec.{ltb}

@@ -1,8 +1,17 @@
-// A line in its 15 places (paper 01, "A line between sheets"): read, and written after a sheet or a repair.
+// A line in its 15 places (docs/SPECIFICATION.md, "A line between sheets"): read, and written after a sheet or a repair.
+use station_rules::CHECK_DUE_LINE;
+use station_rules::FIRST_SET;
+use station_rules::HELD_PLACE;
+use station_rules::INTERCEPT_PLACE;
+use station_rules::LINE_PLACES;
 use station_rules::Line;
+use station_rules::NEW_LINE;
+use station_rules::OPEN_LINE;
+use station_rules::PHASE_PLACE;
 use station_rules::PastSet;
 use station_rules::Verdict;
 use whole::Int;
+use whole::held;
 use whole::places;
 ghost use mathlib.Core.Path.{_≡_};
 ghost use Prim.Native.Nat.{_+_, _≤_};
@@ -14,6 +23,20 @@ ghost use Rattle.station_rules.specs.InPlace.{joinedPlaces, onlyPlaces, openedP
 ghost use Rattle.station_rules.specs.Held.{phaseWord, phaseHeld};
 ghost use Rattle.line.specs.Ranges.{SetFits};
 ghost use Rattle.line.specs.Written.{emptied, phasePlace};
+
+// The phases, as they stand in their place.
+const NEW_PHASE: i32 = NEW_LINE as i32;
+
+const OPEN_PHASE: i32 = OPEN_LINE as i32;
+
+const CHECK_DUE_PHASE: i32 = CHECK_DUE_LINE as i32;
+
+// Where the sets after the newest stand.
+const SECOND_SET: usize = FIRST_SET + held::SET_PLACES;
+
+const THIRD_SET: usize = SECOND_SET + held::SET_PLACES;
+
+const FOURTH_SET: usize = THIRD_SET + held::SET_PLACES;
 
 // ---- read
 
@@ -34,17 +57,17 @@ pub fn line_in(part: &[i32]) -> Line
     requires { ⌜ length (now part) ≡ 15 ⌝ }
     ensures { λ r. ⌜ r ≡ lineIn (now (part .entry)) ⌝ }
 {
-    let intercept = places::number_at(part, 0);
+    let intercept = places::number_at(part, INTERCEPT_PLACE);
     let past = [
-        set_at(part, 3),
-        set_at(part, 6),
-        set_at(part, 9),
-        set_at(part, 12),
+        set_at(part, FIRST_SET),
+        set_at(part, SECOND_SET),
+        set_at(part, THIRD_SET),
+        set_at(part, FOURTH_SET),
     ];
     Line {
         intercept: whole::bare(intercept),
-        phase: places::natural_at(part, 1),
-        held: places::natural_at(part, 2),
+        phase: places::natural_at(part, PHASE_PLACE),
+        held: places::natural_at(part, HELD_PLACE),
         past,
     }
 }
@@ -57,12 +80,17 @@ fn join(part: &mut [i32], p: PastSet)
     requires { ⌜ (lineIn (now part) .held ≤ 4) × (SetFits p) ⌝ }
     ensures { λ r. ⌜ now (part .exit) ≡ joinedPlaces (now (part .entry)) p ⌝ }
 {
-    let held = held_sets::one_more(places::natural_at(part, 2));
-    places::put(part, 1, Int { z: 1 });
-    places::put(part, 2, whole::of_u32(held));
+    let held = held::one_more(places::natural_at(part, HELD_PLACE));
+    places::put(part, PHASE_PLACE, Int { z: OPEN_PHASE });
+    places::put(part, HELD_PLACE, whole::of_u32(held));
     let day = whole::of_u32(p.day);
     let count = whole::of_u32(p.count);
-    held_sets::join(&mut part[3..15], day, Int { z: p.sum }, count);
+    held::join(
+        &mut part[FIRST_SET..LINE_PLACES],
+        day,
+        Int { z: p.sum },
+        count,
+    );
 }
 
 // Nothing is held and the past is blank.
@@ -70,8 +98,8 @@ fn empty(part: &mut [i32])
     requires { ⌜ length (now part) ≡ 15 ⌝ }
     ensures { λ r. ⌜ now (part .exit) ≡ emptied (now (part .entry)) ⌝ }
 {
-    places::put(part, 2, Int { z: 0 });
-    held_sets::empty(&mut part[3..15]);
+    places::put(part, HELD_PLACE, Int { z: 0 });
+    held::empty(&mut part[FIRST_SET..LINE_PLACES]);
 }
 
 // The line is open with this set as its only past.
@@ -90,7 +118,7 @@ fn open(part: &mut [i32], p: PastSet)
     requires { ⌜ (lineIn (now part) .held ≤ 4) × (SetFits p) ⌝ }
     ensures { λ r. ⌜ now (part .exit) ≡ openedPlaces (phaseWord (lineIn (now (part .entry)) .phase)) (now (part .entry)) p ⌝ }
 {
-    if places::natural_at(part, 1) < 2 {
+    if places::natural_at(part, PHASE_PLACE) < CHECK_DUE_LINE {
         join(part, p);
     } else {
         begin(part, p);
@@ -103,9 +131,9 @@ fn close(part: &mut [i32], change: Int)
     requires { ⌜ (Within 1000 1000 (place (now part) 0)) × (Within 2000000 2000000 (change .z)) ⌝ }
     ensures { λ r. ⌜ now (part .exit) ≡ closedPlaces (now (part .entry)) (change .z) ⌝ }
 {
-    let intercept = whole::add(places::number_at(part, 0), change);
-    places::put(part, 0, intercept);
-    places::put(part, 1, Int { z: 2 });
+    let intercept = whole::add(places::number_at(part, INTERCEPT_PLACE), change);
+    places::put(part, INTERCEPT_PLACE, intercept);
+    places::put(part, PHASE_PLACE, Int { z: CHECK_DUE_PHASE });
     empty(part);
 }
 
@@ -126,7 +154,7 @@ pub fn enter_sheet(part: &mut [i32], p: PastSet, v: Verdict)
 pub fn phase_after(v: Verdict) -> u32
     ensures { λ r. ⌜ r ≡ phaseHeld v ⌝ }
 {
-    if v.met { 1 } else { 2 }
+    if v.met { OPEN_LINE } else { CHECK_DUE_LINE }
 }
 
 // ---- written after a repair
@@ -136,10 +164,10 @@ fn repaired_phase(part: &[i32]) -> Int
     requires { ⌜ length (now part) ≡ 15 ⌝ }
     ensures { λ r. ⌜ r .z ≡ phasePlace (now (part .entry)) ⌝ }
 {
-    if places::natural_at(part, 1) < 2 {
-        Int { z: 0 }
+    if places::natural_at(part, PHASE_PLACE) < CHECK_DUE_LINE {
+        Int { z: NEW_PHASE }
     } else {
-        places::number_at(part, 1)
+        places::number_at(part, PHASE_PLACE)
     }
 }
 
@@ -149,6 +177,6 @@ pub fn repair(part: &mut [i32])
     ensures { λ r. ⌜ now (part .exit) ≡ repairedPlaces (now (part .entry)) ⌝ }
 {
     let phase = repaired_phase(part);
-    places::put(part, 1, phase);
+    places::put(part, PHASE_PLACE, phase);
     empty(part);
 }

@@ -1,4 +1,4 @@
--- Paper 01, "A line between sheets": the averages due in the order in which they are tested.
+-- For the proofs of the code, no rule: the averages due in the order in which they are tested (docs/SPECIFICATION.md, "A line between sheets").
 use mathlib.Core.Bool.{cond}
 use mathlib.Core.List.{List, [], _∷_}
 use mathlib.Core.Option.{Option, none, some}

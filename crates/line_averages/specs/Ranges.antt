@@ -1,4 +1,4 @@
--- The tests, limits and sums in whose ranges nothing wraps.
+-- For the proofs of the code, no rule: the tests, limits and sums in whose ranges nothing wraps.
 use mathlib.Core.Path.{_≡_}
 use mathlib.Core.List.{List}
 use Prim.Native.Nat.{ℕ, _+_, _≤_}

@@ -1,7 +1,9 @@
-// The tests of a set's averages (paper 01, "A line between sheets").
+// The tests of a set's averages (docs/SPECIFICATION.md, "A line between sheets").
 mod answer;
 
 pub use answer::Found;
+use station_rules::CHECK_DUE_LINE;
+use station_rules::HELD_SETS;
 use station_rules::Limits;
 use station_rules::PastSet;
 use station_rules::Set;
@@ -48,7 +50,7 @@ fn plus(set: Set, p: PastSet) -> Set
 }
 
 // The five together, where all lie on one side of zero; three is the first three of them.
-fn five_sets(limits: Limits, set: Set, three: Set, past: [PastSet; 4]) -> Found
+fn five_sets(limits: Limits, set: Set, three: Set, past: [PastSet; HELD_SETS]) -> Found
     requires { ⌜ Due limits set 4 past × Joined (plus set (getD past 0 noSet)) (getD past 1 noSet) three ⌝ }
     ensures { λ r. ⌜ (r ≡ foundOf (firstExceeded (fiveTest limits set (getD past 0 noSet) (getD past 1 noSet) (getD past 2 noSet) (getD past 3 noSet)))) × FoundFits r ⌝ }
 {
@@ -63,7 +65,7 @@ fn five_sets(limits: Limits, set: Set, three: Set, past: [PastSet; 4]) -> Found
 }
 
 // The three together where two past sets are valid, and then the five; two is the first two of them.
-fn three_sets(limits: Limits, set: Set, two: Set, k: usize, past: [PastSet; 4]) -> Found
+fn three_sets(limits: Limits, set: Set, two: Set, k: usize, past: [PastSet; HELD_SETS]) -> Found
     requires { ⌜ Due limits set k past × Joined set (getD past 0 noSet) two ⌝ }
     ensures { λ r. ⌜ (r ≡ fromThree limits set (take k past)) × FoundFits r ⌝ }
 {
@@ -82,7 +84,7 @@ fn three_sets(limits: Limits, set: Set, two: Set, k: usize, past: [PastSet; 4]) 
 }
 
 // The two together where one past set is valid, and then the three.
-fn two_sets(limits: Limits, set: Set, k: usize, past: [PastSet; 4]) -> Found
+fn two_sets(limits: Limits, set: Set, k: usize, past: [PastSet; HELD_SETS]) -> Found
     requires { ⌜ Due limits set k past ⌝ }
     ensures { λ r. ⌜ (r ≡ fromTwo limits set (take k past)) × FoundFits r ⌝ }
 {
@@ -98,7 +100,7 @@ fn two_sets(limits: Limits, set: Set, k: usize, past: [PastSet; 4]) -> Found
 }
 
 // The averages due of a new or open line's set: the set alone, and then the two.
-fn one_set(limits: Limits, set: Set, k: usize, past: [PastSet; 4]) -> Found
+fn one_set(limits: Limits, set: Set, k: usize, past: [PastSet; HELD_SETS]) -> Found
     requires { ⌜ Due limits set k past ⌝ }
     ensures { λ r. ⌜ (r ≡ foundOf (firstExceeded (averagesDue limits set (take k past)))) × FoundFits r ⌝ }
 {
@@ -122,11 +124,17 @@ fn check(limits: Limits, set: Set) -> Found
 }
 
 // The first test exceeded of those due by the phase, with the newest k past sets valid.
-pub fn first_exceeded(limits: Limits, phase: u32, set: Set, k: usize, past: [PastSet; 4]) -> Found
+pub fn first_exceeded(
+    limits: Limits,
+    phase: u32,
+    set: Set,
+    k: usize,
+    past: [PastSet; HELD_SETS],
+) -> Found
     requires { ⌜ Due limits set k past ⌝ }
     ensures { λ r. ⌜ (r ≡ foundOf (firstExceeded (testsBy limits (phaseWord phase) set (take k past)))) × FoundFits r ⌝ }
 {
-    if phase < 2 {
+    if phase < CHECK_DUE_LINE {
         one_set(limits, set, k, past)
     } else {
         check(limits, set)

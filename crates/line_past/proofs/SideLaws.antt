@@ -5,9 +5,9 @@ use mathlib.Core.List.{List, [], _∷_}
 use native.Mathlib.Omega.{arith}
 use lib.IntN.{ℤ}
 use lib.ListN.{length, getD}
-use Rattle.whole.specs.Lists.{all}
+use Rattle.whole.specs.Lists.{all, above, below}
 use Rattle.whole.proofs.Tests.{and-true}
-use Rattle.station_rules.specs.Lines.{above, below, sameSide}
+use Rattle.station_rules.specs.Lines.{sameSide}
 use Rattle.station_rules.specs.Held.{noSet}
 use Rattle.station_rules.specs.declared.PastSet.{PastSet}
 

@@ -14,16 +14,16 @@ use Rattle.station_rules.specs.Lines.{validOn}
 use Rattle.station_rules.specs.Soundness.{daysFall}
 use Rattle.station_rules.proofs.NewestFour.{none-valid}
 use Rattle.station_rules.specs.declared.PastSet.{PastSet}
-use Rattle.line_past.specs.Valid.{oneMore}
+use Rattle.line_past.specs.Valid.{countIfValid}
 
-count-from : (day k : ℕ) (ps : List PastSet) → fold (oneMore day) k ps ≡ k + length (validOn day ps)
+count-from : (day k : ℕ) (ps : List PastSet) → fold (countIfValid day) k ps ≡ k + length (validOn day ps)
 unfolding fold validOn
 count-from day k [] = omega arith
 count-from day k (p ∷ ps) =
-    by-test (leb day (p .day + 14)) (λ b. fold (oneMore day) (cond b (k + 1) k) ps ≡ k + length (cond b (p ∷ validOn day ps) (validOn day ps)))
+    by-test (leb day (p .day + 14)) (λ b. fold (countIfValid day) (cond b (k + 1) k) ps ≡ k + length (cond b (p ∷ validOn day ps) (validOn day ps)))
     (λ e. omega (arith, count-from day (k + 1) ps)) (λ e. count-from day k ps)
 
-pub count-fold : (day : ℕ) (ps : List PastSet) → fold (oneMore day) 0 ps ≡ length (validOn day ps)
+pub count-fold : (day : ℕ) (ps : List PastSet) → fold (countIfValid day) 0 ps ≡ length (validOn day ps)
 count-fold day ps = omega (arith, count-from day 0 ps)
 
 pub valid-first : (day d : ℕ) (ps : List PastSet) → T (daysFall d ps) → validOn day ps ≡ take (length (validOn day ps)) ps

@@ -1,4 +1,4 @@
--- The ranges of S and N in which nothing wraps (paper 01, "Refused calls": N is at most twice six samples, |S| at most 11000 times N).
+-- For the proofs of the code, no rule: the ranges of S and N in which nothing wraps (docs/SPECIFICATION.md, "Refused calls": N is at most twice six samples, |S| at most 11000 times N).
 use mathlib.Core.List.{List}
 use Prim.Native.Nat.{ℕ, _*_, _≤_, _<_}
 use lib.IntN.{ℤ}

@@ -1,4 +1,4 @@
--- Paper 01, "A line between sheets": the average rounded to a whole hundredth, halves away from zero.
+-- For the proofs of the code, no rule: the average rounded to a whole hundredth, halves away from zero (docs/SPECIFICATION.md, "A line between sheets").
 use Prim.Native.Nat.{ℕ}
 use lib.IntN.{ℤ}
 use Rattle.station_rules.specs.Lines.{roundedAverage}

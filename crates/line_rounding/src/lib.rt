@@ -1,4 +1,4 @@
-// The average by which a line is adjusted (paper 01, "A line between sheets").
+// The average by which a line is adjusted (docs/SPECIFICATION.md, "A line between sheets").
 use whole::Int;
 ghost use mathlib.Core.Path.{_≡_};
 ghost use Prim.Native.Nat.{_≤_};

@@ -1,5 +1,5 @@
 -- The verdict on a set by the test found, and an adjustment by its test.
-use mathlib.Core.Path.{_≡_, refl, sym, ap, _∙_}
+use mathlib.Core.Path.{_≡_, refl, sym, ap, subst, _∙_}
 use mathlib.Core.Bool.{Bool, true, false}
 use mathlib.Core.List.{List}
 use mathlib.Core.Option.{Option, none, some}
@@ -10,6 +10,7 @@ use lib.IntN.{ℤ, pos, negℤ, natAbs, _-ℤ_}
 use lib.ListN.{length, take}
 use lib.Seq.{take-take}
 use borrow.Author.Tests.{eq-eqb, ne-eqb}
+use Rattle.whole.specs.Parts.{Within}
 use Rattle.whole.proofs.ListLaws.{cond-yes, cond-no}
 use Rattle.station_rules.specs.Lines.{validOn, testsBy, firstExceeded, judged, verdictOf, adjustBy, shut, roundedAverage}
 use Rattle.station_rules.specs.Held.{lineValues, phaseWord}
@@ -34,6 +35,9 @@ verdictBy intercept Nothing = record { change = pos 0; met = true }
 by-found : (intercept : ℤ) (o : Option Test) → verdictBy intercept (foundOf o) ≡ judged intercept o
 by-found intercept none = refl
 by-found intercept (some t) = refl
+
+pub shut-small : {v : Verdict} → v ≡ shut → Within 2000000 2000000 (v .change)
+shut-small e = subst (λ (v : Verdict). Within 2000000 2000000 (v .change)) (sym e) (omega arith)
 
 module _ (limits : Limits) (l : Line) (day : ℕ) (set : Set) where
   pub verdict-shut : set .count ≡ 0 → shut ≡ verdictOf limits (lineValues l) day set

@@ -1,5 +1,6 @@
-// What a set does to its line (paper 01, "A line between sheets").
+// What a set does to its line (docs/SPECIFICATION.md, "A line between sheets").
 use line_averages::Found;
+use station_rules::INTERCEPT_BOUND;
 use station_rules::Limits;
 use station_rules::Line;
 use station_rules::Set;
@@ -7,28 +8,35 @@ use station_rules::Verdict;
 use whole::Int;
 ghost use mathlib.Core.Path.{_≡_};
 ghost use Rattle.whole.specs.Parts.{Within};
-ghost use Rattle.station_rules.specs.Lines.{adjustBy, verdictOf};
+ghost use Rattle.station_rules.specs.Lines.{shut, adjustBy, verdictOf};
 ghost use Rattle.station_rules.specs.Held.{lineValues};
 ghost use Rattle.line_past.specs.Ranges.{SetsOf};
 ghost use Rattle.line_averages.specs.Ranges.{Limited};
 ghost use Rattle.line.specs.Ranges.{LineFits};
+
+// The line is shut: the intercept stays.
+fn shut() -> Verdict
+    ensures { λ r. ⌜ r ≡ shut ⌝ }
+{
+    Verdict {
+        change: 0,
+        met: false,
+    }
+}
 
 // Subtract the average from the intercept; where that would leave -1000..1000 the line is shut instead.
 fn adjust(intercept: Int, average: Int) -> Verdict
     requires { ⌜ (Within 1000 1000 (intercept .z)) × (Within 2000000 2000000 (average .z)) ⌝ }
     ensures { λ r. ⌜ (r ≡ adjustBy (intercept .z) (average .z)) × Within 2000000 2000000 (r .change) ⌝ }
 {
-    if whole::size_at_most(whole::sub(intercept, average), 1000) {
+    if whole::size_at_most(whole::sub(intercept, average), INTERCEPT_BOUND) {
         let change = whole::neg(average);
         Verdict {
             change: change.z,
             met: false,
         }
     } else {
-        Verdict {
-            change: 0,
-            met: false,
-        }
+        shut()
     }
 }
 
@@ -38,10 +46,7 @@ pub fn verdict_on(limits: Limits, l: Line, day: u32, set: Set) -> Verdict
     ensures { λ r. ⌜ (r ≡ verdictOf limits (lineValues l) day set) × Within 2000000 2000000 (r .change) ⌝ }
 {
     if set.count == 0 {
-        return Verdict {
-            change: 0,
-            met: false,
-        };
+        return shut();
     }
     let past = l.past;
     let k = line_past::valid_count(day, l.held as usize, past);

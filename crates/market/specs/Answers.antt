@@ -1,4 +1,4 @@
--- Paper 01, "Market test and moisture basis": the answer by the numbers that are left to judge.
+-- For the proofs of the code, no rule: the answer by the numbers that are left to judge (docs/SPECIFICATION.md, "Market test and moisture basis").
 use mathlib.Core.Bool.{not}
 use mathlib.Core.List.{_∷_}
 use Prim.Native.Nat.{ℕ}
@@ -19,7 +19,7 @@ use Rattle.market_certificate.specs.Certified.{answerBy, certificateBy, lastChe
 unfoldable pub valuedOf : ℕ → Values → ℕ → ℤ → ℤ → MarketAnswer
 valuedOf a v day b h =
     answerBy
-    (firstNumber (record { number = 10; applies = not (within 0 5000 b) } ∷ record { number = 11; applies = not (within 0 10000 h) } ∷ lastChecks a v day b h))
+    (firstNumber (record { answer = 10; applies = not (within 0 5000 b) } ∷ record { answer = 11; applies = not (within 0 10000 h) } ∷ lastChecks a v day b h))
     (certificateBy a v b h)
 
 -- numbers 8 to 14

@@ -1,8 +1,10 @@
-// Market tests (paper 01, "Market test and moisture basis"): their numbers in order, and the call on a station in its caller's
+// Market tests (docs/SPECIFICATION.md, "Market test and moisture basis"): their numbers in order, and the call on a station in its caller's
 // places.
 use market_scan::Picked;
 use reading::Reading;
+use station_rules::BASIS_BOUND;
 use station_rules::Basis;
+use station_rules::LARGEST;
 use station_rules::Line;
 use station_rules::MarketAnswer;
 use station_rules::Refusal;
@@ -26,11 +28,11 @@ fn judge_reading(row: u32, l: Line, day: u32, n: u32, basis: Basis) -> MarketAns
 {
     let a = row_table::standard_basis(row);
     let b = market_figures::basis_value(a, basis);
-    if !market_figures::up_to(5000, b) {
+    if !market_figures::up_to(BASIS_BOUND, b) {
         return MarketAnswer::Refused(Refusal::BadBasis);
     }
     let h = whole::add(whole::of_u32(n), Int { z: l.intercept });
-    if !market_figures::up_to(10000, h) {
+    if !market_figures::up_to(LARGEST, h) {
         return MarketAnswer::Refused(Refusal::BadValue);
     }
     market_certificate::certify(a, l, day, b, h)

@@ -1,7 +1,9 @@
-// Numbers 12 to 14 of a market test, and the certificate (paper 01, "Market test and moisture basis").
+// Numbers 12 to 14 of a market test, and the certificate (docs/SPECIFICATION.md, "Market test and moisture basis").
 use station_rules::Certificate;
 use station_rules::Line;
 use station_rules::MarketAnswer;
+use station_rules::NEWEST_DAYS;
+use station_rules::OPEN_LINE;
 use station_rules::Refusal;
 use whole::Int;
 ghost use mathlib.Core.Path.{_≡_};
@@ -15,7 +17,7 @@ ghost use Rattle.market_certificate.specs.Certified.{certifiedOf};
 fn is_open(phase: u32) -> bool
     ensures { λ r. ⌜ r ≡ isOpen (phaseWord phase) ⌝ }
 {
-    phase == 1
+    phase == OPEN_LINE
 }
 
 // By the basis B and the corrected value h.
@@ -29,7 +31,7 @@ pub fn certify(a: u32, l: Line, day: u32, b: Int, h: Int) -> MarketAnswer
     }
     let past = l.past;
     let newest = market_figures::newest_day(l.held, past);
-    if newest + 7 < day {
+    if newest + NEWEST_DAYS < day {
         return MarketAnswer::Refused(Refusal::OldSet);
     }
     let basis = whole::to_u32(b);

@@ -1,6 +1,9 @@
 // The numbers of a market test: the basis, the newest set's day, and the two figures.
 use station_rules::Basis;
+use station_rules::HELD_SETS;
+use station_rules::LARGEST;
 use station_rules::PastSet;
+use station_rules::WHOLE;
 use whole::Int;
 use whole::flags;
 ghost use mathlib.Core.Path.{_≡_};
@@ -34,7 +37,7 @@ pub fn up_to(high: u32, z: Int) -> bool
 }
 
 // The day of the newest set.
-pub fn newest_day(held: u32, past: [PastSet; 4]) -> u32
+pub fn newest_day(held: u32, past: [PastSet; HELD_SETS]) -> u32
     requires { ⌜ Held held past ⌝ }
     ensures { λ r. ⌜ (r ≡ newestDay (take held past)) × (r ≤ 99999) ⌝ }
 {
@@ -50,7 +53,7 @@ pub fn is_too_high(a: u32, b: u32, h: u32) -> bool
     requires { ⌜ (a < 10000) × ((b ≤ 5000) × (h ≤ 10000)) ⌝ }
     ensures { λ r. ⌜ r ≡ tooHigh a b h ⌝ }
 {
-    10000 * (10000 - a) < h * (10000 - b)
+    LARGEST * (WHOLE - a) < h * (WHOLE - b)
 }
 
 // h in tenths, rounded once to the nearest, halves up.
@@ -66,5 +69,5 @@ pub fn in_tenths_at(a: u32, b: u32, h: u32) -> u32
     requires { ⌜ (a < 10000) × ((b ≤ 5000) × (h ≤ 10000)) ⌝ }
     ensures { λ r. ⌜ r ≡ tenthsAt a b h ⌝ }
 {
-    (2 * h * (10000 - b) + 10 * (10000 - a)) / (20 * (10000 - a))
+    (2 * h * (WHOLE - b) + 10 * (WHOLE - a)) / (20 * (WHOLE - a))
 }

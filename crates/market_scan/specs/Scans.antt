@@ -1,4 +1,4 @@
--- Paper 01, "Analyser readings": the asked line's float of a scan.
+-- For the proofs of the code, no rule: the asked line's float of a scan (docs/SPECIFICATION.md, "Analyser readings").
 use mathlib.Core.Bool.{cond}
 use Prim.Native.Nat.{ℕ}
 use Rattle.station_rules.specs.Readings.{scanFits, lineFloat}

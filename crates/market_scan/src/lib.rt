@@ -1,6 +1,9 @@
 // What the analyser answered: the asked line's float.
 use station_rules::CornSet;
+use station_rules::OIL;
+use station_rules::PROTEIN;
 use station_rules::Scan;
+use station_rules::WHEAT;
 ghost use mathlib.Core.Path.{_≡_};
 ghost use Rattle.station_rules.specs.Readings.{cornFloat};
 ghost use Rattle.market_scan.specs.Scans.{pickedOf};
@@ -14,10 +17,10 @@ pub enum Picked {
 fn corn_value(c: CornSet, line: usize) -> f32
     ensures { λ r. ⌜ r ≡ cornFloat c line ⌝ }
 {
-    if line == 0 {
+    if line == PROTEIN {
         return c.protein;
     }
-    if line == 1 {
+    if line == OIL {
         return c.oil;
     }
     c.starch
@@ -29,14 +32,14 @@ pub fn pick(row: u32, scan: Scan, line: usize) -> Picked
 {
     match scan {
         Scan::Wheat(x) => {
-            if row == 0 {
+            if row == WHEAT {
                 Picked::Value(x)
             } else {
                 Picked::Wrong
             }
         }
         Scan::Corn(c) => {
-            if row == 0 {
+            if row == WHEAT {
                 Picked::Wrong
             } else {
                 Picked::Value(corn_value(c, line))

@@ -1,4 +1,4 @@
--- Worked readings at the edges of paper 01's rule and of number 9: a float's pattern, and what is answered.
+-- Worked readings at the edges of the rule and of number 9: a float's pattern, and what is answered.
 use mathlib.Core.List.{List, [], _∷_}
 use Prim.Native.Nat.{ℕ}
 use Rattle.reading.specs.Reading.{Said, hundredths, refusedBy}

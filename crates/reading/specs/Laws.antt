@@ -1,4 +1,4 @@
--- Paper 01, "Analyser readings" and number 9: what is promised of every float's reading. The theorem is `reading-laws` of proofs/Laws.antt.
+-- docs/SPECIFICATION.md, "Analyser readings" and number 9: what is promised of every float's reading. The theorem is `reading-laws` of proofs/Laws.antt.
 use mathlib.Core.Path.{_≡_}
 use mathlib.Core.Bool.{Bool, true, cond}
 use Prim.Native.Nat.{ℕ, _+_, _*_, _≤_, _<_}

@@ -1,4 +1,4 @@
--- Paper 01, "Analyser readings" and number 9: what a float in percent reads as.
+-- docs/SPECIFICATION.md, "Analyser readings" and number 9: what a float in percent reads as.
 use mathlib.Core.Bool.{Bool, false, not, _&&_, _||_, cond}
 use Prim.Native.Nat.{ℕ, _+_, _*_, _/_, _^_}
 use lib.Dec.{leb, eqb}
@@ -32,7 +32,7 @@ unfoldable pub answerOf : Float → Reading
 unfolding inRange readingOf
 answerOf x = cond (inRange x) (Hundredths (readingOf x)) Refused
 
--- what an answer says in paper 01's words: a reading in hundredths, or the number of a refusal
+-- what an answer says in the rules' words: a reading in hundredths, or the number of a refusal
 pub data Said : Type 0 where
   hundredths : ℕ → Said
   refusedBy : ℕ → Said

@@ -1,4 +1,4 @@
--- Paper 01, "Product rows": the limits of a line of one row.
+-- For the proofs of the code, no rule: the limits of a line of one row (docs/SPECIFICATION.md, "Product rows").
 use Prim.Native.Nat.{ℕ}
 use lib.ListN.{getD}
 use Rattle.station_rules.specs.Rows.{Row, limits}

@@ -1,4 +1,4 @@
-// The limits of each row's lines (paper 01, "Product rows").
+// The limits of each row's lines (docs/SPECIFICATION.md, "Product rows").
 use station_rules::Limits;
 ghost use mathlib.Core.Path.{_≡_};
 ghost use Rattle.station_rules.specs.Rows.{wheat, corn, limits};

@@ -1,4 +1,4 @@
--- Paper 01, numbers 4 to 7: what a sheet's numbers come to.
+-- For the proofs of the code, no rule: what a sheet's numbers come to (docs/SPECIFICATION.md, "Refused calls", numbers 4 to 7).
 use mathlib.Core.List.{List}
 use mathlib.Core.Option.{Option, none, some}
 use Prim.Native.Nat.{ℕ}

@@ -1,4 +1,4 @@
--- Paper 01, rule 4: S and N of a round.
+-- For the proofs of the code, no rule: S and N of a round (docs/SPECIFICATION.md, "The reference sheet", rule 4).
 use mathlib.Core.Path.{_≡_}
 use mathlib.Core.Bool.{Bool, cond}
 use mathlib.Core.List.{List, map}

@@ -5,6 +5,7 @@ mod totals;
 pub use answer::Judged;
 use station_rules::Limits;
 use station_rules::Refusal;
+use station_rules::SAMPLE_NUMBERS;
 use whole::Int;
 ghost use mathlib.Core.Path.{_≡_};
 ghost use Prim.Native.Nat.{_≤_};
@@ -15,7 +16,7 @@ pub fn judge(limits: Limits, intercept: Int, samples: usize, numbers: &[i32]) ->
     requires { ⌜ Fair limits (intercept .z) × ((1 ≤ samples) × (samples ≤ 1000)) ⌝ }
     ensures { λ r. ⌜ r ≡ judgedOf limits (intercept .z) samples (now (numbers .entry)) ⌝ }
 {
-    if numbers.len() != 6 * samples {
+    if numbers.len() != SAMPLE_NUMBERS * samples {
         return Judged::Refused(Refusal::SheetSize);
     }
     if sheet_checks::any_wrong_number(numbers, samples) {

@@ -1,4 +1,4 @@
-// Numbers 5 to 7 over a whole sheet (paper 01, "The reference sheet"), each one pass over the samples.
+// Numbers 5 to 7 over a whole sheet (docs/SPECIFICATION.md, "The reference sheet"), each one pass over the samples.
 use station_rules::Limits;
 use whole::Int;
 use whole::flags;

@@ -1,4 +1,4 @@
--- Paper 01, "The reference sheet": a sample's six numbers as the code holds them and as the rules have them, and the ranges in which nothing wraps.
+-- For the proofs of the code, no rule: a sample's six numbers as the code holds them and as the rules have them, and the ranges in which nothing wraps (docs/SPECIFICATION.md, "The reference sheet").
 use mathlib.Core.Bool.{Bool, _&&_, _||_}
 use mathlib.Core.List.{List}
 use Prim.Native.Nat.{_≤_}

@@ -1,4 +1,4 @@
--- Paper 01, "The reference sheet": what the passes after number 5 are handed.
+-- For the proofs of the code, no rule: what the passes after number 5 are handed (docs/SPECIFICATION.md, "The reference sheet").
 use mathlib.Core.Path.{_≡_}
 use mathlib.Core.Bool.{false}
 use mathlib.Core.List.{List, []}

@@ -1,4 +1,7 @@
-// A sample's six numbers, taken from its part of the sheet, and number 5 (paper 01, "The reference sheet").
+// A sample's six numbers, taken from its part of the sheet, and number 5 (docs/SPECIFICATION.md, "The reference sheet").
+use station_rules::LARGEST;
+use station_rules::NOT_MEASURED;
+use station_rules::SAMPLE_NUMBERS;
 use whole::Int;
 use whole::flags;
 ghost use mathlib.Core.Path.{_≡_};
@@ -7,6 +10,9 @@ ghost use lib.ListN.{length, getD};
 ghost use Rattle.station_rules.specs.Sheets.{samplesOf, isResult, absent, wrongNumber};
 ghost use Rattle.sheet_numbers.specs.Samples.{sampleOf, sampleFrom, allowed, inRanges};
 ghost use Rattle.sheet_numbers.specs.Sheet.{blank};
+
+// The largest number of a sheet.
+const LARGEST_NUMBER: i32 = LARGEST as i32;
 
 pub struct SixNumbers {
     pub baseline: Int,
@@ -37,8 +43,8 @@ pub fn sample_at(numbers: &[i32], i: usize, samples: usize) -> SixNumbers
     requires { ⌜ (i < samples) × (length (now numbers) ≡ 6 * samples) ⌝ }
     ensures { λ r. ⌜ sampleOf r ≡ getD (samplesOf (now (numbers .entry))) i blank ⌝ }
 {
-    let a = 6 * i;
-    let e = a + 6;
+    let a = SAMPLE_NUMBERS * i;
+    let e = a + SAMPLE_NUMBERS;
     six_numbers(&numbers[a..e])
 }
 
@@ -48,7 +54,7 @@ fn is_result(x: Int) -> bool
 {
     flags::both(
         whole::at_most(Int { z: 0 }, x),
-        whole::at_most(x, Int { z: 10000 }),
+        whole::at_most(x, Int { z: LARGEST_NUMBER }),
     )
 }
 
@@ -57,7 +63,7 @@ pub fn is_absent(x: Int) -> bool
     ensures { λ r. ⌜ r ≡ absent (x .z) ⌝ }
 {
     flags::both(
-        whole::at_most(Int { z: -1 }, x),
+        whole::at_most(Int { z: NOT_MEASURED }, x),
         whole::less(x, Int { z: 0 }),
     )
 }

@@ -1,4 +1,4 @@
--- Paper 01, rule 1: a pair of results as an array of two numbers.
+-- For the proofs of the code, no rule: a pair of results as an array of two numbers (docs/SPECIFICATION.md, "The reference sheet", rule 1).
 use mathlib.Core.List.{List}
 use lib.IntN.{ℤ, pos}
 use lib.ListN.{getD}

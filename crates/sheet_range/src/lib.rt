@@ -1,15 +1,20 @@
-// Rule 3 over a whole sheet (paper 01, "The reference sheet"): the range of the deviations, and whether again pairs are due.
+// Rule 3 over a whole sheet (docs/SPECIFICATION.md, "The reference sheet"): the range of the deviations, and whether again pairs are due.
 use station_rules::Limits;
 use whole::Int;
 use whole::flags;
 ghost use mathlib.Core.Path.{_≡_};
 ghost use mathlib.Core.List.{map};
-ghost use Rattle.whole.specs.Parts.{Within};
-ghost use Rattle.whole.specs.Lists.{any, largest, smallest};
+ghost use Rattle.whole.specs.Lists.{any, largerOf, smallerOf};
 ghost use Rattle.station_rules.specs.Sheets.{samplesOf, deviates, firstDeviation, againRound};
 ghost use Rattle.sheet_numbers.specs.Samples.{Fair};
 ghost use Rattle.sheet_numbers.specs.Sheet.{Sheet};
-ghost use Rattle.sheet_range.specs.Range.{wide};
+ghost use Rattle.sheet_range.specs.Range.{wide, Spanned};
+
+// The largest and the smallest of some deviations.
+struct Span {
+    high: Int,
+    low: Int,
+}
 
 // Some sample deviates.
 fn any_deviates(limits: Limits, intercept: Int, numbers: &[i32], samples: usize) -> bool
@@ -26,42 +31,37 @@ fn any_deviates(limits: Limits, intercept: Int, numbers: &[i32], samples: usize)
     found
 }
 
-// The largest deviation.
-fn highest(limits: Limits, intercept: Int, numbers: &[i32], samples: usize) -> Int
-    requires { ⌜ Fair limits (intercept .z) × Sheet samples (now numbers) ⌝ }
-    ensures { λ r. ⌜ (r .z ≡ largest (map (firstDeviation limits (intercept .z)) (samplesOf (now (numbers .entry))))) × Within 25000 25000 (r .z) ⌝ }
+// The span with one deviation more.
+fn widened(s: Span, d: Int) -> Span
+    ensures { λ r. ⌜ (r .high .z ≡ largerOf (s .high .z) (d .z)) × (r .low .z ≡ smallerOf (s .low .z) (d .z)) ⌝ }
 {
-    let mut high = sheet_sample::first_deviation(
-        limits,
-        intercept,
-        sheet_numbers::sample_at(numbers, 0, samples),
-    );
-    let mut i = 0;
-    while i < samples {
-        let s = sheet_numbers::sample_at(numbers, i, samples);
-        high = whole::larger(high, sheet_sample::first_deviation(limits, intercept, s));
-        i += 1;
+    Span {
+        high: whole::larger(s.high, d),
+        low: whole::smaller(s.low, d),
     }
-    high
 }
 
-// The smallest deviation.
-fn lowest(limits: Limits, intercept: Int, numbers: &[i32], samples: usize) -> Int
+// The span of all deviations, from the first sample's on.
+fn spanned(limits: Limits, intercept: Int, numbers: &[i32], samples: usize) -> Span
     requires { ⌜ Fair limits (intercept .z) × Sheet samples (now numbers) ⌝ }
-    ensures { λ r. ⌜ (r .z ≡ smallest (map (firstDeviation limits (intercept .z)) (samplesOf (now (numbers .entry))))) × Within 25000 25000 (r .z) ⌝ }
+    ensures { λ r. ⌜ Spanned (map (firstDeviation limits (intercept .z)) (samplesOf (now (numbers .entry)))) r ⌝ }
 {
-    let mut low = sheet_sample::first_deviation(
+    let first = sheet_sample::first_deviation(
         limits,
         intercept,
         sheet_numbers::sample_at(numbers, 0, samples),
     );
-    let mut i = 0;
+    let mut span = Span {
+        high: first,
+        low: first,
+    };
+    let mut i = 1;
     while i < samples {
         let s = sheet_numbers::sample_at(numbers, i, samples);
-        low = whole::smaller(low, sheet_sample::first_deviation(limits, intercept, s));
+        span = widened(span, sheet_sample::first_deviation(limits, intercept, s));
         i += 1;
     }
-    low
+    span
 }
 
 // The largest minus the smallest deviation is above twice the range limit.
@@ -69,9 +69,11 @@ fn is_wide(limits: Limits, intercept: Int, numbers: &[i32], samples: usize) -> b
     requires { ⌜ Fair limits (intercept .z) × Sheet samples (now numbers) ⌝ }
     ensures { λ r. ⌜ r ≡ wide limits (map (firstDeviation limits (intercept .z)) (samplesOf (now (numbers .entry)))) ⌝ }
 {
-    let high = highest(limits, intercept, numbers, samples);
-    let low = lowest(limits, intercept, numbers, samples);
-    whole::less(whole::of_u32(2 * limits.range), whole::sub(high, low))
+    let span = spanned(limits, intercept, numbers, samples);
+    whole::less(
+        whole::of_u32(2 * limits.range),
+        whole::sub(span.high, span.low),
+    )
 }
 
 // Rule 3: again pairs are due.

@@ -1,4 +1,4 @@
-// One sample of a sheet (paper 01, "The reference sheet", rules 1 to 3): whether a third is due, its deviation, whether an again pair is due, and whether it is kept.
+// One sample of a sheet (docs/SPECIFICATION.md, "The reference sheet", rules 1 to 3): whether a third is due, its deviation, whether an again pair is due, and whether it is kept.
 use sheet_numbers::SixNumbers;
 use station_rules::Limits;
 use whole::Int;

@@ -1,4 +1,4 @@
--- Paper 01, "Cases beside the edges": the cases marked by a star, on the definitions that the calls' contracts cite; wheat, N 12 and n 5.
+-- docs/SPECIFICATION.md, "Cases": the cases marked by a star, on the definitions that the calls' contracts cite; wheat, N 12 and n 5.
 use mathlib.Core.List.{List, [], _∷_}
 use lib.ListN.{replicate}
 use lib.IntN.{ℤ, pos, negsuc}
@@ -6,7 +6,7 @@ use Rattle.reading.specs.Reading.{hundredths}
 use Rattle.station_rules.specs.Lines.{newLine, openLine, checkDueLine}
 use Rattle.station_rules.specs.Replies.{refusedBy, outcome, certificate}
 use Rattle.station_rules.specs.Cases.{Seen, read, sheet, market, charted, Case, readOf, again, results, deviations, twoDeviations, dryOn}
-use Rattle.chart.specs.Cases.{averages}
+use Rattle.chart_rules.specs.Cases.{averages}
 
 -- the last of sets with these sums, n 5, in weeks 1, 2, .. of a fresh wheat chart
 abbrev pub sums : List ℤ → Seen

@@ -1,4 +1,4 @@
--- A station's sheet call, once its sheet's numbers are judged.
+-- For the proofs of the code, no rule: a station's sheet call, once its sheet's numbers are judged.
 use mathlib.Core.Path.{_≡_}
 use mathlib.Core.Bool.{true}
 use mathlib.Core.List.{List}

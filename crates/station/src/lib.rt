@@ -1,11 +1,13 @@
-// A station's calls: opening, sheet and repair (paper 01), on the station in its caller's places. Judged first, written last: a refused call writes
+// A station's calls: opening, sheet and repair, on the station in its caller's places. Judged first, written last: a refused call writes
 // nothing, but for a refused opening, which leaves a fresh station of row 0.
 use sheet::Judged;
 use station_rules::OpenAnswer;
 use station_rules::Outcome;
 use station_rules::PastSet;
+use station_rules::ROW_PLACE;
 use station_rules::Refusal;
 use station_rules::RepairAnswer;
+use station_rules::STATION_PLACES;
 use station_rules::Set;
 use station_rules::SheetAnswer;
 use whole::Int;
@@ -18,15 +20,15 @@ ghost use Rattle.station.specs.Accepted.{acceptedIn, Acceptable, Ruled};
 // ---- opening
 
 // Every place is written: the row, and 0.
-pub fn open(state: &mut [i32; 47], row: usize) -> OpenAnswer
+pub fn open(state: &mut [i32; STATION_PLACES], row: usize) -> OpenAnswer
     ensures { λ r. ⌜ record { answer = r; places = now (state .exit) } ≡ openIn row ⌝ }
 {
-    let zeros = [0; 47];
+    let zeros = [0; STATION_PLACES];
     *state = zeros;
     if !row_table::row_exists(row) {
         return OpenAnswer::Refused(Refusal::UnknownRow);
     }
-    places::put(state, 0, whole::of_u32(row as u32));
+    places::put(state, ROW_PLACE, whole::of_u32(row as u32));
     OpenAnswer::Opened
 }
 

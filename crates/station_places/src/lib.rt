@@ -1,6 +1,10 @@
 // A station in its 47 places: what is read there, and what an accepted call writes.
+use station_rules::DAY_PLACE;
+use station_rules::FIRST_LINE;
+use station_rules::LINE_PLACES;
 use station_rules::Line;
 use station_rules::PastSet;
+use station_rules::ROW_PLACE;
 use station_rules::Verdict;
 use whole::places;
 ghost use mathlib.Core.Path.{_≡_};
@@ -18,22 +22,22 @@ pub fn row_of(state: &[i32]) -> u32
     requires { ⌜ length (now state) ≡ 47 ⌝ }
     ensures { λ r. ⌜ r ≡ stationIn (now (state .entry)) .row ⌝ }
 {
-    places::natural_at(state, 0)
+    places::natural_at(state, ROW_PLACE)
 }
 
 pub fn day_of(state: &[i32]) -> u32
     requires { ⌜ length (now state) ≡ 47 ⌝ }
     ensures { λ r. ⌜ r ≡ stationIn (now (state .entry)) .day ⌝ }
 {
-    places::natural_at(state, 1)
+    places::natural_at(state, DAY_PLACE)
 }
 
 pub fn line_of(state: &[i32], line: usize) -> Line
     requires { ⌜ (length (now state) ≡ 47) × (line < 3) ⌝ }
     ensures { λ r. ⌜ r ≡ lineOf (stationIn (now (state .entry))) line ⌝ }
 {
-    let start = 2 + 15 * line;
-    line::line_in(&state[start..start + 15])
+    let start = FIRST_LINE + LINE_PLACES * line;
+    line::line_in(&state[start..start + LINE_PLACES])
 }
 
 // ---- written
@@ -42,7 +46,7 @@ pub fn put_day(state: &mut [i32], day: u32)
     requires { ⌜ (length (now state) ≡ 47) × (day ≤ 99999) ⌝ }
     ensures { λ r. ⌜ now (state .exit) ≡ withDay (now (state .entry)) day ⌝ }
 {
-    places::put(state, 1, whole::of_u32(day));
+    places::put(state, DAY_PLACE, whole::of_u32(day));
 }
 
 // A line after a sheet.
@@ -52,8 +56,8 @@ pub fn enter_sheet(state: &mut [i32], line: usize, p: PastSet, v: Verdict)
     requires { ⌜ (Within 1000 1000 (lineOf (stationIn (now state)) line .intercept)) × (Within 2000000 2000000 (v .change)) ⌝ }
     ensures { λ r. ⌜ now (state .exit) ≡ withLine (now (state .entry)) line (sheetLine (linePlaces (now (state .entry)) line) p v) ⌝ }
 {
-    let start = 2 + 15 * line;
-    line::enter_sheet(&mut state[start..start + 15], p, v);
+    let start = FIRST_LINE + LINE_PLACES * line;
+    line::enter_sheet(&mut state[start..start + LINE_PLACES], p, v);
 }
 
 // A line after a repair.
@@ -61,6 +65,6 @@ pub fn repair_line(state: &mut [i32], line: usize)
     requires { ⌜ (length (now state) ≡ 47) × (line < 3) ⌝ }
     ensures { λ r. ⌜ now (state .exit) ≡ withRepaired (now (state .entry)) line ⌝ }
 {
-    let start = 2 + 15 * line;
-    line::repair(&mut state[start..start + 15]);
+    let start = FIRST_LINE + LINE_PLACES * line;
+    line::repair(&mut state[start..start + LINE_PLACES]);
 }

@@ -1,4 +1,4 @@
-// A refusal's number in the paper, for what prints or hands it on.
+// A refusal's number, for what prints or hands it on.
 use station_rules::Refusal;
 ghost use mathlib.Core.Path.{_≡_};
 ghost use Rattle.station_rules.specs.Refusals.{numberOf};

@@ -13,10 +13,10 @@ use lib.Seq.{getD-set-same, getD-set-other}
 use lib.IntN.{ℤ, natAbs}
 use lib.Ieee.Fits.{eq→eqb}
 use borrow.Author.Tests.{ltb-false, eq-eqb, ne-eqb, eqb-false}
-use Rattle.whole.specs.Lists.{all}
+use Rattle.whole.specs.Lists.{all, Check}
 use Rattle.whole.proofs.Tests.{and-i, to-true, or-none, not-false-T}
 use Rattle.station_rules.specs.Rows.{rowExists, samples, lineCount, limitsOf}
-use Rattle.station_rules.specs.Refusals.{Check, firstNumber, numberOf, refusalOf}
+use Rattle.station_rules.specs.Refusals.{firstNumber, numberOf, refusalOf}
 use Rattle.station_rules.specs.Sheets.{sheetChecks}
 use Rattle.station_rules.specs.Lines.{Values, pastSet, phaseAfter}
 use Rattle.station_rules.specs.Markets.{certificateOf, marketChecks}
@@ -48,7 +48,7 @@ use Rattle.station_rules.proofs.Invariant.{LineAgrees, later-line, line
 
 -- ---- a station's call, as a number or what it comes to when accepted
 
-checksOf : Station → Call → List Check
+checksOf : Station → Call → List (Check ℕ)
 checksOf s (sheetCall day line numbers) = soundCheck s ∷ sheetNumbers (s .row) (s .day) (valuesOf s line) day line numbers
 checksOf s (repairCall day) = soundCheck s ∷ repairNumbers (s .day) day
 checksOf s (marketCall day line scan basis) = soundCheck s ∷ marketNumbers (s .row) (s .day) (valuesOf s line) day line scan basis
@@ -72,7 +72,7 @@ orStays none s next = next
 orStays (some number) s next = s
 
 -- every check's number is that of a refusal
-all-known : (s : Station) (c : Call) → T (all (λ k. hasRefusal (k .number)) (checksOf s c))
+all-known : (s : Station) (c : Call) → T (all (λ k. hasRefusal (k .answer)) (checksOf s c))
 unfolding checksOf sheetNumbers sheetChecks marketNumbers marketChecks
 all-known s (sheetCall day line numbers) = tt
 all-known s (repairCall day) = tt
@@ -160,7 +160,7 @@ sound-station b ls a =
 -- ---- a call is judged alike
 
 module _ (b : Book) (ls : List Line) (a : Agrees ls b) where
-  passed : (cs : List Check) → firstNumber (soundCheck (stationOf b ls) ∷ cs) ≡ firstNumber cs
+  passed : (cs : List (Check ℕ)) → firstNumber (soundCheck (stationOf b ls) ∷ cs) ≡ firstNumber cs
   passed cs = passed-over (not (sound (stationOf b ls))) 0 (firstNumber cs) (ap not (sound-station b ls a))
 
   number-same : (c : Call) → firstNumber (checksOf (stationOf b ls) c) ≡ bookNumber b c
@@ -213,12 +213,12 @@ module _ (b : Book) (ls : List Line) (a : Agrees ls b) where
 
 -- ---- what no number leaves
 
-day-ok : (last day : ℕ) (cs : List Check) → firstNumber (dayCheck last day ∷ cs) ≡ none → (last ≤ day) × (day ≤ 99999)
+day-ok : (last day : ℕ) (cs : List (Check ℕ)) → firstNumber (dayCheck last day ∷ cs) ≡ none → (last ≤ day) × (day ≤ 99999)
 day-ok last day cs e =
     let f = or-none (ltb day last) (ltb 99999 day) (none-head (dayCheck last day) cs e) in
     (ltb-false day last (f .0), ltb-false 99999 day (f .1))
 
-pub line-ok : (row line : ℕ) (c : Check) (cs : List Check) → firstNumber (c ∷ lineCheck row line ∷ cs) ≡ none → line < lineCount row
+pub line-ok : (row line : ℕ) (c : Check ℕ) (cs : List (Check ℕ)) → firstNumber (c ∷ lineCheck row line ∷ cs) ≡ none → line < lineCount row
 line-ok row line c cs e =
     ltb→lt line (lineCount row) (not-false-T (ltb line (lineCount row)) (none-head (lineCheck row line) cs (none-tail c (lineCheck row line ∷ cs) e)))
 

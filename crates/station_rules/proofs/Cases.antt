@@ -1,4 +1,4 @@
--- Where the handbook may be misread, what comes out is what paper 01 says, by computation.
+-- Where the handbook may be misread, what comes out is what the rules say, by computation.
 use mathlib.Core.Path.{_≡_, refl}
 use mathlib.Core.List.{map}
 use lib.Ieee.{ofBits}

@@ -9,11 +9,11 @@ use lib.Dec.{T, eqb, leb, ltb}
 use lib.IntN.{ℤ, pos}
 use lib.ListN.{length, take, set}
 use borrow.Author.Tests.{eqb-true, not-false}
-use Rattle.whole.specs.Lists.{all}
+use Rattle.whole.specs.Lists.{all, Check}
 use Rattle.whole.proofs.Spelled.{elements, spelled}
 use Rattle.whole.proofs.Tests.{and-l, of-true}
 use Rattle.station_rules.specs.Rows.{rowExists, samples, lineCount, limitsOf}
-use Rattle.station_rules.specs.Refusals.{Check, firstNumber, refusalOf}
+use Rattle.station_rules.specs.Refusals.{firstNumber, refusalOf}
 use Rattle.station_rules.specs.Lines.{LinePhase, newLine, openLine, checkDueLine, Values, pastSet}
 use Rattle.station_rules.specs.Held.{Station, phaseWord, opened, closed, lineAfter, repairedLine}
 use Rattle.station_rules.specs.Soundness.{soundLine, sound, soundCheck}
@@ -217,7 +217,7 @@ open-holds row = go (rowExists row)
     go false = refl
 
 -- where no number applies, the station is sound, so it has 47 places
-places-47 : (words : List ℤ) (cs : List Check) → firstNumber (soundCheck (stationIn words) ∷ cs) ≡ none → length words ≡ 47
+places-47 : (words : List ℤ) (cs : List (Check ℕ)) → firstNumber (soundCheck (stationIn words) ∷ cs) ≡ none → length words ≡ 47
 places-47 words cs e = all-places words (not-false (sound (stationIn words)) (none-head (soundCheck (stationIn words)) cs e))
 
 pub sheet-holds : (words : List ℤ) (day line : ℕ) (numbers : List ℤ)
@@ -260,7 +260,7 @@ market-holds words day line scan basis = go (firstNumber (soundCheck s ∷ numbe
     s : Station
     s = stationIn words
 
-    numbers : List Check
+    numbers : List (Check ℕ)
     numbers = marketNumbers (s .row) (s .day) (valuesOf s line) day line scan basis
 
     c : Certificate

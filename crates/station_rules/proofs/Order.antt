@@ -152,10 +152,10 @@ module _ (limits : Limits) (i : ℤ) {ss ts : List Sample} (d : List·Permᴰ ss
   checks-order n =
       rw (samples-back ss, samples-back ts, round-order)
       (λ j.
-      record { number = 4; applies = not (eqb (numbers-order j) (6 * n)) }
-      ∷ record { number = 5; applies = any-order wrongNumber d j }
-      ∷ record { number = 6; applies = any-order (wrongThird limits) d j }
-      ∷ record { number = 7; applies = any-order (wrongAgain limits i (againRound limits i ts)) d j }
+      record { answer = 4; applies = not (eqb (numbers-order j) (6 * n)) }
+      ∷ record { answer = 5; applies = any-order wrongNumber d j }
+      ∷ record { answer = 6; applies = any-order (wrongThird limits) d j }
+      ∷ record { answer = 7; applies = any-order (wrongAgain limits i (againRound limits i ts)) d j }
       ∷ [])
 
 pub order-free : OrderFree

@@ -9,9 +9,9 @@ use native.Mathlib.Nat.{mul-mod-right}
 use lib.Dec.{T, leb, ltb, eqb, leb→le, le→leb, eqb→eq}
 use lib.ListN.{length}
 use lib.IntN.{ℤ, pos, negsuc, natAbs, _+ℤ_, _-ℤ_, _*ℤ_}
-use Rattle.whole.specs.Lists.{any, all, total, differ}
+use Rattle.whole.specs.Lists.{any, all, total, differ, Check}
 use Rattle.station_rules.specs.Lists.{keep}
-use Rattle.station_rules.specs.Refusals.{Check, firstNumber}
+use Rattle.station_rules.specs.Refusals.{firstNumber}
 use Rattle.station_rules.specs.Sheets.{Sample, samplesOf, isResult, absent, wrongNumber, wrongThird, wrongAgain, Pair, pair, spread, pairSum, closer, closestPair, thirdDue, usedPair, deviation, firstDeviation, finalDeviation, againRound, againDue, kept, keptSamples, setOf, sheetChecks}
 use Rattle.whole.proofs.Tests.{and-l, and-r, and-i, or-none, not-false-T}
 use Rattle.whole.proofs.ListLaws.{by-test}

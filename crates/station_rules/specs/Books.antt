@@ -1,4 +1,4 @@
--- Paper 01, "The book": fed only the row and the calls' arguments other than the station, it holds the row, the day of the last accepted call and all
+-- docs/SPECIFICATION.md, "The book": fed only the row and the calls' arguments other than the station, it holds the row, the day of the last accepted call and all
 -- accepted sheets and repairs, and answers by what it reads off them.
 use Prim.Native.Nat.{ℕ}
 use mathlib.Core.Bool.{Bool, true, false, not, _&&_, cond}

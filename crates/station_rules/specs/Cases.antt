@@ -1,4 +1,4 @@
--- What a call of paper 01's cases shows, how the station's cases are made, and "Misreadings of the handbook". The cases marked by a star are in the crate `starred`.
+-- What a call of the cases shows, how the station's cases are made, and "Misreadings of the handbook". The cases marked by a star are in the crate `starred`.
 use mathlib.Core.List.{List, [], _∷_, _++_, map}
 use Prim.Native.Nat.{ℕ}
 use lib.ListN.{length, take, replicate}

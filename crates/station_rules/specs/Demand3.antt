@@ -1,4 +1,4 @@
--- The third demand (paper 01, "The book"): one claim about a list of calls from a fresh station of a row. Every answer is spoken of as a `Reply`.
+-- The third demand (docs/SPECIFICATION.md, "The book"): one claim about a list of calls from a fresh station of a row. Every answer is spoken of as a `Reply`.
 use mathlib.Core.Path.{_≡_}
 use mathlib.Core.Logic.{_↔_}
 use mathlib.Core.Bool.{Bool, true, false, cond}

@@ -1,4 +1,4 @@
--- Paper 01, "A line between sheets": a station, and the line that it holds, fresh, after a sheet and after a repair.
+-- docs/SPECIFICATION.md, "A line between sheets": a station, and the line that it holds, fresh, after a sheet and after a repair.
 use Prim.Native.Nat.{ℕ, suc, min}
 use mathlib.Core.Bool.{Bool, cond}
 use mathlib.Core.List.{List, [], _∷_}

@@ -1,4 +1,4 @@
--- Paper 01's rules for stations, one file for each of its sections; then lists of calls and the book; the calls on a station that lies in its caller's places; and demand 3.
+-- The rules for stations, one file for each section of docs/SPECIFICATION.md; then lists of calls and the book; the calls on a station that lies in its caller's places; and demand 3.
 pub mod Lists
 pub mod Rows
 pub mod Refusals

@@ -1,12 +1,11 @@
--- Paper 01, "A line between sheets": the tests due of a set, the adjustment, and when a sheet met every average due.
+-- docs/SPECIFICATION.md, "A line between sheets": the tests due of a set, the adjustment, and when a sheet met every average due.
 use Prim.Native.Nat.{ℕ, _+_, _*_, _/_}
 use mathlib.Core.Bool.{Bool, true, false, not, _&&_, _||_, cond}
 use mathlib.Core.List.{List, [], _∷_}
 use mathlib.Core.Option.{Option, none, some}
 use lib.Dec.{leb, ltb, eqb}
 use lib.IntN.{ℤ, pos, negsuc, negℤ, natAbs, _+ℤ_, _-ℤ_}
-use lib.Signed.{ltZ}
-use Rattle.whole.specs.Lists.{any}
+use Rattle.whole.specs.Lists.{any, above, below}
 use Rattle.station_rules.specs.Lists.{keep}
 use Rattle.station_rules.specs.declared.PastSet.{PastSet}
 use Rattle.station_rules.specs.declared.Verdict.{Verdict}
@@ -43,13 +42,6 @@ testOf limit set = record { limit = limit; sum = set .sum; count = set .count }
 -- sets together: their summed S and N
 abbrev pub plus : Set → PastSet → Set
 plus set p = record { sum = set .sum +ℤ p .sum; count = set .count + p .count }
-
--- above zero, below zero
-abbrev pub above : ℤ → Bool
-above z = ltZ (pos 0) z
-
-abbrev pub below : ℤ → Bool
-below z = ltZ z (pos 0)
 
 -- all five S above zero or all below; zero breaks the five
 unfoldable pub sameSide : ℤ → ℤ → ℤ → ℤ → ℤ → Bool

@@ -1,13 +1,13 @@
--- Paper 01, "Market test and moisture basis": the corrected value, numbers 8 to 14, and the certificate.
+-- docs/SPECIFICATION.md, "Market test and moisture basis": the corrected value, numbers 8 to 14, and the certificate.
 use Prim.Native.Nat.{ℕ, _+_, _*_, _-_, _/_}
 use mathlib.Core.Bool.{Bool, true, false, not, _&&_}
 use mathlib.Core.List.{List, [], _∷_}
 use lib.Dec.{ltb}
 use lib.IntN.{ℤ, pos, natAbs, _+ℤ_}
 use lib.Signed.{leZ}
+use Rattle.whole.specs.Lists.{Check}
 use Rattle.reading.specs.Reading.{readingOf, inRange}
 use Rattle.station_rules.specs.Rows.{standardBasis}
-use Rattle.station_rules.specs.Refusals.{Check}
 use Rattle.station_rules.specs.Readings.{scanFits, lineFloat}
 use Rattle.station_rules.specs.Lines.{LinePhase, newLine, openLine, checkDueLine, Values}
 use Rattle.station_rules.specs.declared.Scan.{Scan}
@@ -55,17 +55,17 @@ tenthsAt a b h = (2 * h * (10000 - b) + 10 * (10000 - a)) / (20 * (10000 - a))
 
 module _ (row : ℕ) (v : Values) (line : ℕ) (scan : Scan) (basis : Basis) where
   -- numbers 8 to 14, of a request on a day
-  unfoldable pub marketChecks : ℕ → List Check
+  unfoldable pub marketChecks : ℕ → List (Check ℕ)
   marketChecks day =
       let b = basisOf (standardBasis row) basis in
       let h = correctedValue v scan line in
-      record { number = 8; applies = not (scanFits row scan) }
-      ∷ record { number = 9; applies = not (inRange (lineFloat scan line)) }
-      ∷ record { number = 10; applies = not (within 0 5000 b) }
-      ∷ record { number = 11; applies = not (within 0 10000 h) }
-      ∷ record { number = 12; applies = not (isOpen (v .phase)) }
-      ∷ record { number = 13; applies = ltb (newestDay (v .past) + 7) day }
-      ∷ record { number = 14; applies = tooHigh (standardBasis row) (natAbs b) (natAbs h) }
+      record { answer = 8; applies = not (scanFits row scan) }
+      ∷ record { answer = 9; applies = not (inRange (lineFloat scan line)) }
+      ∷ record { answer = 10; applies = not (within 0 5000 b) }
+      ∷ record { answer = 11; applies = not (within 0 10000 h) }
+      ∷ record { answer = 12; applies = not (isOpen (v .phase)) }
+      ∷ record { answer = 13; applies = ltb (newestDay (v .past) + 7) day }
+      ∷ record { answer = 14; applies = tooHigh (standardBasis row) (natAbs b) (natAbs h) }
       ∷ []
 
   -- the day of the line's newest set, the intercept, B and two figures in tenths: h, and h at B

@@ -1,4 +1,4 @@
--- Paper 01, "Analyser readings": the scan. A float's exact value in units of 2^−149, its reading and number 9's test are those of the crate `reading`.
+-- docs/SPECIFICATION.md, "Analyser readings": the scan. A float's exact value in units of 2^−149, its reading and number 9's test are those of the crate `reading`.
 use Prim.Native.Nat.{ℕ, zero, suc}
 use mathlib.Core.Bool.{Bool, true, false}
 use lib.Ieee.{Float, nan}

@@ -1,21 +1,15 @@
--- Paper 01, "Refused calls": which number is answered, and the number of each refusal of a station's calls.
+-- docs/SPECIFICATION.md, "Refused calls": which number is answered, and the number of each refusal of a station's calls.
 use Prim.Native.Nat.{ℕ}
-use mathlib.Core.Bool.{Bool}
 use mathlib.Core.List.{List, [], _∷_}
 use mathlib.Core.Option.{Option, none, some}
 use lib.ListN.{getD}
-use Rattle.whole.specs.Lists.{firstApplying}
+use Rattle.whole.specs.Lists.{Check, firstApplying}
 use Rattle.station_rules.specs.declared.Refusal.{Refusal}
 use Rattle.station_rules.specs.declared.Refusal.the-variants.{UnsoundStation, UnknownRow, BadDay, UnknownLine, SheetSize, SheetNumber, ThirdReading, AgainPair, WrongScan, BadFloat, BadBasis, BadValue, NotOpen, OldSet, TooHigh}
 
--- a number, with the test by which it applies
-pub record Check : Type 0 where
-  pub number : ℕ
-  pub applies : Bool
-
 -- "The lowest applying number is answered": the first of checks that stand in the order of their numbers
-abbrev pub firstNumber : List Check → Option ℕ
-firstNumber = firstApplying none (λ c. c .applies) (λ c. some (c .number))
+abbrev pub firstNumber : List (Check ℕ) → Option ℕ
+firstNumber = firstApplying none some
 
 -- each refusal's number
 abbrev pub numberOf : Refusal → ℕ

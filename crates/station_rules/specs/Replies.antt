@@ -1,4 +1,4 @@
--- What a call is answered in paper 01's own terms, and the number and values that each case of each answer stands for.
+-- What a call is answered in the rules' own terms, and the number and values that each case of each answer stands for.
 use Prim.Native.Nat.{ℕ}
 use lib.IntN.{ℤ}
 use Rattle.station_rules.specs.Refusals.{numberOf}

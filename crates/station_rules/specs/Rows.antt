@@ -1,4 +1,4 @@
--- Paper 01, "Product rows": the table. Limits are whole hundredths of a percent.
+-- docs/SPECIFICATION.md, "Product rows": the table. Limits are whole hundredths of a percent.
 use Prim.Native.Nat.{ℕ}
 use mathlib.Core.Bool.{Bool}
 use mathlib.Core.List.{List, [], _∷_}

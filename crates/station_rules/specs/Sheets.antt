@@ -1,4 +1,4 @@
--- Paper 01, "The reference sheet": rules 1 to 4, and numbers 4 to 7, for a line's limits and intercept.
+-- docs/SPECIFICATION.md, "The reference sheet": rules 1 to 4, and numbers 4 to 7, for a line's limits and intercept.
 use Prim.Native.Nat.{ℕ, _*_}
 use mathlib.Core.Bool.{Bool, false, not, _&&_, _||_, cond}
 use mathlib.Core.List.{List, [], _∷_, map}
@@ -6,9 +6,8 @@ use lib.ListN.{length}
 use lib.Dec.{ltb, eqb}
 use lib.IntN.{ℤ, pos, negsuc, natAbs, _+ℤ_, _-ℤ_, _*ℤ_}
 use lib.Signed.{leZ, ltZ}
-use Rattle.whole.specs.Lists.{differ, any, total, largest, smallest}
+use Rattle.whole.specs.Lists.{differ, any, total, largest, smallest, Check}
 use Rattle.station_rules.specs.Lists.{keep}
-use Rattle.station_rules.specs.Refusals.{Check}
 use Rattle.station_rules.specs.declared.Set.{Set}
 use Rattle.station_rules.specs.declared.Limits.{Limits}
 
@@ -142,11 +141,11 @@ module _ (limits : Limits) (intercept : ℤ) where
       record { sum = total (map (finalDeviation (againRound ss)) (keptSamples ss)); count = 2 * length (keptSamples ss) }
 
   -- numbers 4 to 7, for a sheet of n samples
-  unfoldable pub sheetChecks : ℕ → List ℤ → List Check
+  unfoldable pub sheetChecks : ℕ → List ℤ → List (Check ℕ)
   sheetChecks n numbers =
       let ss = samplesOf numbers in
-      record { number = 4; applies = not (eqb (length numbers) (6 * n)) }
-      ∷ record { number = 5; applies = any wrongNumber ss }
-      ∷ record { number = 6; applies = any (wrongThird limits) ss }
-      ∷ record { number = 7; applies = any (wrongAgain (againRound ss)) ss }
+      record { answer = 4; applies = not (eqb (length numbers) (6 * n)) }
+      ∷ record { answer = 5; applies = any wrongNumber ss }
+      ∷ record { answer = 6; applies = any (wrongThird limits) ss }
+      ∷ record { answer = 7; applies = any (wrongAgain (againRound ss)) ss }
       ∷ []

@@ -1,13 +1,12 @@
--- Paper 01, "Refused calls": when a station is sound (number 0).
+-- docs/SPECIFICATION.md, "Refused calls": when a station is sound (number 0).
 use Prim.Native.Nat.{ℕ, _*_, _%_}
 use mathlib.Core.Bool.{Bool, true, not, _&&_}
 use mathlib.Core.List.{List, [], _∷_}
 use lib.ListN.{take}
 use lib.Dec.{leb, eqb}
 use lib.IntN.{natAbs}
-use Rattle.whole.specs.Lists.{all}
+use Rattle.whole.specs.Lists.{all, Check}
 use Rattle.station_rules.specs.Rows.{rowExists, samples, lineCount}
-use Rattle.station_rules.specs.Refusals.{Check}
 use Rattle.station_rules.specs.Lines.{LinePhase, newLine, openLine, checkDueLine, soundIntercept}
 use Rattle.station_rules.specs.Held.{phaseExists, phaseWord, lineValues}
 use Rattle.station_rules.specs.declared.PastSet.{PastSet}
@@ -46,5 +45,5 @@ sound s =
     rowExists (s .row) && leb (s .day) 99999 && all (soundLine (samples (s .row)) (s .day)) (take (lineCount (s .row)) (s .lines))
 
 -- number 0: the station handed in isn't sound
-abbrev pub soundCheck : Station → Check
-soundCheck s = record { number = 0; applies = not (sound s) }
+abbrev pub soundCheck : Station → Check ℕ
+soundCheck s = record { answer = 0; applies = not (sound s) }

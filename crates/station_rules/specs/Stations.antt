@@ -1,4 +1,4 @@
--- The four calls of a station (paper 01): opening, sheet, repair and market test. A refused call hands back the station as it came.
+-- The four calls of a station: opening, sheet, repair and market test. A refused call hands back the station as it came.
 use Prim.Native.Nat.{ℕ}
 use mathlib.Core.Bool.{cond}
 use mathlib.Core.List.{List, _∷_, map}

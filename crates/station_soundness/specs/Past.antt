@@ -1,4 +1,4 @@
--- Paper 01, "Refused calls": a line's past sets.
+-- For the proofs of the code, no rule: a line's past sets (docs/SPECIFICATION.md, "Refused calls").
 use Prim.Native.Nat.{ℕ}
 use mathlib.Core.Bool.{Bool, _&&_}
 use mathlib.Core.List.{List}

@@ -1,8 +1,22 @@
-// Numbers 0 and 2, which look at the station alone: whether what stands in the places is a sound station, and whether a call's day serves (paper 01,
+// Numbers 0 and 2, which look at the station alone: whether what stands in the places is a sound station, and whether a call's day serves (docs/SPECIFICATION.md,
 // "Refused calls").
+use station_rules::CHECK_DUE_LINE;
+use station_rules::FIRST_LINE;
+use station_rules::FIRST_SET;
+use station_rules::HELD_PLACE;
+use station_rules::INTERCEPT_BOUND;
+use station_rules::INTERCEPT_PLACE;
+use station_rules::LAST_DAY;
+use station_rules::LINE_PLACES;
+use station_rules::NEW_LINE;
+use station_rules::OPEN_LINE;
+use station_rules::PHASE_PLACE;
 use station_rules::PastSet;
+use station_rules::STATION_PLACES;
+use station_rules::SUM_BOUND;
 use whole::Int;
 use whole::flags;
+use whole::held;
 use whole::places;
 ghost use mathlib.Core.Path.{_≡_};
 ghost use mathlib.Core.Bool.{_&&_};
@@ -29,7 +43,7 @@ fn sound_set(n: u32, p: PastSet) -> bool
     if 2 * n < p.count {
         return false;
     }
-    whole::size_at_most(Int { z: p.sum }, 11000 * p.count)
+    whole::size_at_most(Int { z: p.sum }, SUM_BOUND * p.count)
 }
 
 // An open line has one to four past sets and any other none; a phase that there isn't has no right number of them.
@@ -37,9 +51,9 @@ fn sound_held(phase: u32, held: u32) -> bool
     ensures { λ r. ⌜ r ≡ soundHeld phase held ⌝ }
 {
     match phase {
-        0 => held == 0,
-        1 => flags::both(1 <= held, held <= 4),
-        2 => held == 0,
+        NEW_LINE => held == 0,
+        OPEN_LINE => flags::both(1 <= held, held <= held::SETS),
+        CHECK_DUE_LINE => held == 0,
         _ => false,
     }
 }
@@ -64,7 +78,7 @@ fn sound_past(n: u32, day: u32, held: usize, part: &[i32]) -> bool
     let mut last = day;
     let mut i: usize = 0;
     while i < held {
-        let p = line::set_at(part, 3 + 3 * i);
+        let p = line::set_at(part, FIRST_SET + held::SET_PLACES * i);
         if !next_set(n, last, p) {
             return false;
         }
@@ -79,11 +93,11 @@ fn sound_line(n: u32, day: u32, part: &[i32]) -> bool
     requires { ⌜ length (now part) ≡ 15 ⌝ }
     ensures { λ r. ⌜ r ≡ soundLine n day (lineIn (now (part .entry))) ⌝ }
 {
-    if !whole::size_at_most(places::number_at(part, 0), 1000) {
+    if !whole::size_at_most(places::number_at(part, INTERCEPT_PLACE), INTERCEPT_BOUND) {
         return false;
     }
-    let held = places::natural_at(part, 2);
-    if !sound_held(places::natural_at(part, 1), held) {
+    let held = places::natural_at(part, HELD_PLACE);
+    if !sound_held(places::natural_at(part, PHASE_PLACE), held) {
         return false;
     }
     sound_past(n, day, held as usize, part)
@@ -97,8 +111,8 @@ fn sound_lines(state: &[i32], n: u32, day: u32, count: usize) -> bool
 {
     let mut i: usize = 0;
     while i < count {
-        let start = 2 + 15 * i;
-        if !sound_line(n, day, &state[start..start + 15]) {
+        let start = FIRST_LINE + LINE_PLACES * i;
+        if !sound_line(n, day, &state[start..start + LINE_PLACES]) {
             return false;
         }
         i += 1;
@@ -110,7 +124,7 @@ fn sound_lines(state: &[i32], n: u32, day: u32, count: usize) -> bool
 pub fn is_sound(state: &[i32]) -> bool
     ensures { λ r. ⌜ r ≡ sound (stationIn (now (state .entry))) ⌝ }
 {
-    if state.len() != 47 {
+    if state.len() != STATION_PLACES {
         return false;
     }
     let row = station_places::row_of(state);
@@ -118,7 +132,7 @@ pub fn is_sound(state: &[i32]) -> bool
         return false;
     }
     let day = station_places::day_of(state);
-    if 99999 < day {
+    if LAST_DAY < day {
         return false;
     }
     sound_lines(
@@ -133,5 +147,5 @@ pub fn is_sound(state: &[i32]) -> bool
 pub fn is_bad_day(last: u32, day: u32) -> bool
     ensures { λ r. ⌜ r ≡ dayCheck last day .applies ⌝ }
 {
-    flags::either(day < last, 99999 < day)
+    flags::either(day < last, LAST_DAY < day)
 }

@@ -1,4 +1,1 @@
-pub mod Gathering
-pub mod Answering
-pub mod Charted
-pub mod Exact
+pub mod Left

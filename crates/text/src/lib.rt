@@ -1,21 +1,21 @@
 // A chart text judged and charted whole.
+use chart_rules::CHART_PLACES;
+use chart_rules::LINE_ROOM;
+use chart_rules::LineRead;
+use chart_rules::MOST_NUMBERS;
+use chart_rules::NAMES_LENGTH;
+use chart_rules::TextAnswer;
+use chart_rules::TextRefusal;
+use chart_rules::TextVerdict;
 use text_gather::Progress;
 use text_gather::TextSet;
-use text_judge::Verdict;
-use text_lines::LineRead;
-use text_ruling::TextRefusal;
 ghost use mathlib.Core.Path.{_≡_};
 ghost use Prim.Native.Nat.{_+_, _*_, _≤_};
 ghost use lib.ListN.{length};
 ghost use Rattle.decimal.specs.Put.{Put};
-ghost use Rattle.text_judge.specs.Judging.{valueLines, GoodLines};
-ghost use Rattle.text.specs.Texts.{textSets, textLines, chartTextOf};
-
-// The length of what was written; or the refusal and its text line.
-pub enum TextAnswer {
-    Written(usize),
-    Refused(TextRefusal, u32),
-}
+ghost use Rattle.chart_rules.specs.Judging.{valueLines};
+ghost use Rattle.chart_rules.specs.Fine.{GoodLines};
+ghost use Rattle.chart_rules.specs.Output.{textSets, textLines, chartTextOf};
 
 // The lines of a good text's sets, from position start on: the position behind them.
 fn write_sets(text: &[u8], out: &mut [u8], start: usize) -> usize
@@ -24,15 +24,15 @@ fn write_sets(text: &[u8], out: &mut [u8], start: usize) -> usize
     ensures { λ r. ⌜ Put (now (out .entry)) start (textLines (now (text .entry))) (now (out .exit)) r ⌝ }
 {
     let mut p = Progress {
-        chart: [0; 15],
+        chart: [0; CHART_PLACES],
         set: TextSet {
             week: 0,
             count: 0,
-            numbers: [0; 10],
+            numbers: [0; MOST_NUMBERS],
         },
         end: start,
     };
-    let mut at: usize = 29;
+    let mut at: usize = NAMES_LENGTH;
     while at < text.len() {
         let LineRead::Values(v, next) = text_lines::read_line(text, at) else {
             return start;
@@ -53,9 +53,9 @@ pub fn chart_text(text: &[u8], out: &mut [u8]) -> TextAnswer
     ensures { λ r. ⌜ chartTextOf (now (text .entry)) (now (out .entry)) ≡ record { answer = r; buffer = now (out .exit) } ⌝ }
 {
     match text_judge::judge(text) {
-        Verdict::Refused(refusal, line) => TextAnswer::Refused(refusal, line),
-        Verdict::Good(sets) => {
-            if out.len() / 40 <= sets {
+        TextVerdict::Refused(refusal, line) => TextAnswer::Refused(refusal, line),
+        TextVerdict::Good(sets) => {
+            if out.len() / LINE_ROOM <= sets {
                 return TextAnswer::Refused(TextRefusal::ShortBuffer, 0);
             }
             let names = b"week n sum range al tl run ral rtl\n";

@@ -1,2 +1,2 @@
-pub mod Gathering
-pub mod Charting
+pub mod UnderWay
+pub mod Seen

@@ -1,2 +1,1 @@
-pub mod Gathering
-pub mod Charting
+pub mod Progress

@@ -1,26 +1,29 @@
 // A chart text's lines grouped into sets, each set charted when it is complete.
-use chart::ChartAnswer;
-use text_lines::ValueLine;
+use chart_rules::CHART_PLACES;
+use chart_rules::ChartAnswer;
+use chart_rules::MOST_NUMBERS;
+use chart_rules::ValueLine;
 ghost use mathlib.Core.Path.{_≡_};
 ghost use Prim.Native.Nat.{_+_, _*_, _<_, _≤_};
 ghost use lib.IntN.{pos};
 ghost use lib.ListN.{length};
 ghost use Rattle.decimal.specs.Put.{Put};
-ghost use Rattle.chart_places.specs.ChartPlaces.{chartAt};
-ghost use Rattle.text_ruling.specs.Rulings.{FineLine};
-ghost use Rattle.text_gather.specs.Gathering.{seen, finished, closed, Grown};
-ghost use Rattle.text_gather.specs.Charting.{chartAll, Flushed, Stepped};
+ghost use Rattle.chart_rules.specs.Places.{chartAt};
+ghost use Rattle.chart_rules.specs.Fine.{FineLine};
+ghost use Rattle.text_gather.specs.Progress.{seen, Grown, Flushed, Stepped};
+ghost use Rattle.chart_rules.specs.Gathering.{finished, closed};
+ghost use Rattle.chart_rules.specs.Output.{chartAll};
 
 // A set under way: its week, the number of its pairs, the pairs one after the other.
 pub struct TextSet {
     pub week: u32,
     pub count: usize,
-    pub numbers: [i32; 10],
+    pub numbers: [i32; MOST_NUMBERS],
 }
 
 // The chart so far, in its places, the set under way, and where the next output line goes.
 pub struct Progress {
-    pub chart: [i32; 15],
+    pub chart: [i32; CHART_PLACES],
     pub set: TextSet,
     pub end: usize,
 }
@@ -52,7 +55,7 @@ fn joined(s: TextSet, v: ValueLine) -> TextSet
 }
 
 // The set under way is charted, if it has a line.
-pub fn flush(chart: [i32; 15], s: TextSet, out: &mut [u8], end: usize) -> Progress
+pub fn flush(chart: [i32; CHART_PLACES], s: TextSet, out: &mut [u8], end: usize) -> Progress
     requires { ⌜ (s .count ≤ 5) × (end + 40 * length (finished (seen s)) ≤ length (now out)) ⌝ }
     ensures { λ r. ⌜ Flushed chart s r × Put (now (out .entry)) end (chartAll (chartAt chart) (finished (seen s))) (now (out .exit)) (r .end) ⌝ }
 {
@@ -60,7 +63,7 @@ pub fn flush(chart: [i32; 15], s: TextSet, out: &mut [u8], end: usize) -> Progre
     let set = TextSet {
         week: 0,
         count: 0,
-        numbers: [0; 10],
+        numbers: [0; MOST_NUMBERS],
     };
     if count == 0 {
         return Progress { chart, set, end };

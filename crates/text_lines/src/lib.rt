@@ -1,21 +1,9 @@
 // Reads the value lines of the chart text: four decimals, single spaces, a line feed.
-use text_numbers::Number;
+use chart_rules::LineRead;
+use chart_rules::Number;
+use chart_rules::ValueLine;
 ghost use mathlib.Core.Path.{_≡_};
-ghost use Rattle.text_lines.specs.Line.{field as fieldOf, lineAt};
-ghost use Rattle.text_lines.specs.Names.{namesLine, startsWith};
-
-pub struct ValueLine {
-    pub week: u32,
-    pub sample: u32,
-    pub original: u32,
-    pub monitor: u32,
-}
-
-// A line that was read, and the position of the next.
-pub enum LineRead {
-    Values(ValueLine, usize),
-    Bad,
-}
+ghost use Rattle.chart_rules.specs.TextLines.{field as fieldOf, lineAt, namesLine, startsWith};
 
 // The number at position at with the byte end behind it: the position moves past that byte.
 pub fn field(text: &[u8], end: u8, at: usize) -> Number
@@ -45,7 +33,7 @@ pub fn read_line(text: &[u8], at: usize) -> LineRead
     let Number::Value(original, k) = field(text, b' ', j) else {
         return LineRead::Bad;
     };
-    let Number::Value(monitor, next) = field(text, 10, k) else {
+    let Number::Value(monitor, next) = field(text, b'\n', k) else {
         return LineRead::Bad;
     };
     LineRead::Values(

@@ -1,10 +1,11 @@
 // What the chart program prints.
-use text::TextAnswer;
+use chart_rules::LINE_ROOM;
+use chart_rules::TextAnswer;
 ghost use mathlib.Core.Path.{_≡_};
 ghost use Prim.Native.Nat.{_≤_};
 ghost use lib.ListN.{length};
 ghost use Rattle.decimal.specs.Put.{Put};
-ghost use Rattle.text_print.specs.Printing.{refusalBytes, printedOf};
+ghost use Rattle.chart_rules.specs.Printing.{refusalBytes, printedOf};
 
 // `refused`, the number and the text line, from the buffer's start on: the length.
 fn put_refusal(out: &mut [u8], number: u32, line: u32) -> usize
@@ -15,7 +16,7 @@ fn put_refusal(out: &mut [u8], number: u32, line: u32) -> usize
     let a = decimal::put_bytes(out, 0, word);
     let b = decimal::put_field(out, a, number);
     let c = decimal::put_field(out, b, line);
-    decimal::put_byte(out, c, 10)
+    decimal::put_byte(out, c, b'\n')
 }
 
 // What the program prints, from the buffer's start on: the text's output, or the line of its refusal. It gives the length.
@@ -23,7 +24,7 @@ fn put_refusal(out: &mut [u8], number: u32, line: u32) -> usize
 pub fn print_text(text: &[u8], out: &mut [u8]) -> usize
     ensures { λ r. ⌜ printedOf (now (text .entry)) (now (out .entry)) ≡ record { length = r; buffer = now (out .exit) } ⌝ }
 {
-    if out.len() < 40 {
+    if out.len() < LINE_ROOM {
         return 0;
     }
     match text::chart_text(text, out) {

@@ -1,28 +1,20 @@
 // A value line of a chart text judged after the line before it: numbers 18, 19 and 21.
-use text_lines::ValueLine;
+use chart_rules::LARGEST_RESULT;
+use chart_rules::MOST_PAIRS;
+use chart_rules::Ruling;
+use chart_rules::TextRefusal;
+use chart_rules::ValueLine;
 use whole::flags;
 ghost use mathlib.Core.Path.{_≡_};
 ghost use mathlib.Core.List.{[], _∷_};
 ghost use Prim.Native.Nat.{_≤_};
 ghost use lib.IntN.{pos};
-ghost use Rattle.chart_bounds.specs.Bounds.{badResult};
-ghost use Rattle.text_ruling.specs.Refusals.{numberOf};
-ghost use Rattle.text_ruling.specs.Rulings.{isNext, isStart, ruling};
-
-// Numbers 15 to 19, 21 and 22.
-pub enum TextRefusal {
-    TooLong,
-    BadNames,
-    BadLine,
-    BadSample,
-    BadWeek,
-    BadResult,
-    ShortBuffer,
-}
+ghost use Rattle.chart_rules.specs.Refusals.{badResult};
+ghost use Rattle.chart_rules.specs.Judging.{textNumber, isNext, isStart, ruling};
 
 // A refusal's number.
 pub fn number_of(refusal: TextRefusal) -> u32
-    ensures { λ r. ⌜ r ≡ numberOf refusal ⌝ }
+    ensures { λ r. ⌜ r ≡ textNumber refusal ⌝ }
 {
     match refusal {
         TextRefusal::TooLong => 15,
@@ -35,19 +27,13 @@ pub fn number_of(refusal: TextRefusal) -> u32
     }
 }
 
-// A refusal with its text line, or none.
-pub enum Ruling {
-    Fine,
-    Refused(TextRefusal, u32),
-}
-
 // The line has the week before it and the next sample number up to 5.
 fn is_next(week: u32, sample: u32, v: ValueLine) -> bool
     requires { ⌜ sample ≤ 5 ⌝ }
     ensures { λ r. ⌜ r ≡ isNext week sample v ⌝ }
 {
     let goes_on = flags::both(sample != 0, v.week == week);
-    let follows = flags::both(v.sample == sample + 1, v.sample <= 5);
+    let follows = flags::both(v.sample == sample + 1, v.sample <= MOST_PAIRS);
     flags::both(goes_on, follows)
 }
 
@@ -62,7 +48,7 @@ fn is_start(week: u32, sample: u32, v: ValueLine) -> bool
 fn bad_pair(v: ValueLine) -> bool
     ensures { λ r. ⌜ r ≡ badResult (pos (v .original) ∷ pos (v .monitor) ∷ []) ⌝ }
 {
-    flags::either(10000 < v.original, 10000 < v.monitor)
+    flags::either(LARGEST_RESULT < v.original, LARGEST_RESULT < v.monitor)
 }
 
 // The first refusal that applies to a line after the line before it.

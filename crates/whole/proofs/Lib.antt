@@ -6,3 +6,4 @@ pub mod ListLaws
 pub mod Read
 pub mod Elements
 pub mod Spelled
+pub mod Twelve

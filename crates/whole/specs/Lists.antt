@@ -1,8 +1,8 @@
--- Tests over a list, the first that applies, and the sum, the largest and the smallest of a list of whole numbers.
+-- Tests over a list, checks in order and the first that applies, sides of zero, and the sum, the largest and the smallest of a list of whole numbers.
 use mathlib.Core.Bool.{Bool, true, false, not, _&&_, _||_, cond, Bool·beq}
 use mathlib.Core.List.{List, [], _∷_}
 use lib.IntN.{ℤ, pos, _+ℤ_}
-use lib.Signed.{leZ}
+use lib.Signed.{leZ, ltZ}
 
 -- the two tests give different answers
 abbrev pub differ : Bool → Bool → Bool
@@ -19,11 +19,23 @@ module _ {A : Type 0} where
   all p [] = true
   all p (x ∷ xs) = p x && all p xs
 
+-- a test, and what is answered where it applies
+pub record Check (A : Type 0) : Type 0 where
+  pub applies : Bool
+  pub answer : A
+
 module _ {A B : Type 0} where
-  -- the answer of the first element that applies; this one where none does
-  abbrev pub firstApplying : B → (A → Bool) → (A → B) → List A → B
-  firstApplying fine applies answer [] = fine
-  firstApplying fine applies answer (x ∷ xs) = cond (applies x) (answer x) (firstApplying fine applies answer xs)
+  -- what is made of the answer of the first check that applies; this one where none does
+  abbrev pub firstApplying : B → (A → B) → List (Check A) → B
+  firstApplying fine refused [] = fine
+  firstApplying fine refused (c ∷ cs) = cond (c .applies) (refused (c .answer)) (firstApplying fine refused cs)
+
+-- above zero, below zero
+abbrev pub above : ℤ → Bool
+above z = ltZ (pos 0) z
+
+abbrev pub below : ℤ → Bool
+below z = ltZ z (pos 0)
 
 -- the sum of a list
 abbrev pub total : List ℤ → ℤ

@@ -11,6 +11,7 @@ ghost use Rattle.whole.specs.Places.{natural as naturalOf};
 ghost use Rattle.whole.specs.Lists.{largerOf, smallerOf};
 
 pub mod flags;
+pub mod held;
 pub mod places;
 
 pub struct Int {
@@ -55,19 +56,6 @@ pub fn size(a: Int) -> u32
         to_u32(neg(a))
     } else {
         to_u32(a)
-    }
-}
-
-// The place of a in the order: two integers compare as their ranks do, and the test of two ranks is a fact that omega reads.
-pub fn rank(a: Int) -> u32
-    requires { ⌜ down (a .z) < 2147483648 ⌝ }
-    ensures { λ r. ⌜ r + down (a .z) ≡ 2147483648 + up (a .z) ⌝ }
-{
-    let s = size(a);
-    if less(a, Int { z: 0 }) {
-        2147483648 - s
-    } else {
-        2147483648 + s
     }
 }
 

@@ -22,7 +22,8 @@ flag-requires-5 c κs = search needs
 
 returns : tie.Need-returns
 returns c =
-    let s = c .before .before .before .before .before .before in
+    let third = c .before .before .before in
+    let s = third .before .before .before in
     let f : SFits w32 (s .args .v .sum) = search needs in
     λ i. record {
       accepted = 1;
@@ -31,9 +32,9 @@ returns c =
       count = s .args .v .count;
       sum = back f .is i;
       range = s .args .v .range;
-      al = c .before .before .before .before .before .flag .ensures i;
-      tl = c .before .before .before .before .flag2 .ensures i;
-      run = c .before .before .before .flag3 .ensures i;
+      al = third .before .before .flag .ensures i;
+      tl = third .before .flag2 .ensures i;
+      run = third .flag3 .ensures i;
       ral = c .before .before .flag4 .ensures i;
       rtl = c .before .flag5 .ensures i;
       length = s .args .length;

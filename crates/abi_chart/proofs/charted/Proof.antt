@@ -1,7 +1,7 @@
 use mathlib.Core.Path.{sym, ap, _∙_, subst}
 use Prim.Native.Nat.{_≤_}
 use native.Mathlib.Omega.{arith}
-use Rattle.chart.specs.declared.ChartAnswer.{ChartAnswer}
+use Rattle.chart_rules.specs.declared.ChartAnswer.{ChartAnswer}
 use Rattle.abi_chart.specs.ChartAnswers.{setRefused, setGiven, lineLength}
 use borrow.Author.Needs.{needs}
 use Rattle.abi_chart.proofs.charted.Statement.{statement}

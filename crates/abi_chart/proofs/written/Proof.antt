@@ -1,7 +1,7 @@
 use mathlib.Core.Path.{sym, ap, _∙_, subst}
 use Prim.Native.Nat.{_≤_}
 use native.Mathlib.Omega.{arith}
-use Rattle.text.specs.declared.TextAnswer.{TextAnswer}
+use Rattle.chart_rules.specs.declared.TextAnswer.{TextAnswer}
 use Rattle.abi_chart.specs.ChartAnswers.{textGiven, textLength}
 use borrow.Author.Needs.{needs}
 use Rattle.abi_chart.proofs.written.Statement.{statement}

@@ -5,27 +5,21 @@ use borrow.Author.Needs.{needs}
 use Rattle.abi_station.proofs.judged.Statement.{statement}
 use Rattle.abi_station.proofs.judged.Tie as tie
 
--- src/lib.rt:131:31
 enum-known-a : tie.Need-enum-known-a
 enum-known-a c = search needs
 
--- src/lib.rt:131:37
 outcome-requires : tie.Need-outcome-requires
 outcome-requires c κs = search needs
 
--- src/lib.rt:132:30
 enum-known-a-2 : tie.Need-enum-known-a-2
 enum-known-a-2 c = search needs
 
--- src/lib.rt:134:21
 number-requires : tie.Need-number-requires
 number-requires c κs = search needs
 
--- src/lib.rt:127:1
 returns : tie.Need-returns
 returns c = c .outcome .ensures ∙ ap sheetGiven (sym (c .before .before .a .given .1))
 
--- src/lib.rt:127:1
 returns-2 : tie.Need-returns-2
 returns-2 c =
     (λ i. record { accepted = 0; number = c .number .ensures i; sum = pos 0; count = 0; phase = 0; change = pos 0 })

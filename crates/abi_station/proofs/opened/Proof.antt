@@ -5,31 +5,24 @@ use borrow.Author.Needs.{needs}
 use Rattle.abi_station.proofs.opened.Statement.{statement}
 use Rattle.abi_station.proofs.opened.Tie as tie
 
--- src/lib.rt:96:31
 enum-told : tie.Need-enum-told
 enum-told c = search needs
 
--- src/lib.rt:96:31
 accepted-requires : tie.Need-accepted-requires
 accepted-requires c κs = search needs
 
--- src/lib.rt:97:29
 enum-known-a : tie.Need-enum-known-a
 enum-known-a c = search needs
 
--- src/lib.rt:97:52
 number-requires : tie.Need-number-requires
 number-requires c κs = search needs
 
--- src/lib.rt:97:35
 refused-requires : tie.Need-refused-requires
 refused-requires c κs = search needs
 
--- src/lib.rt:92:1
 returns : tie.Need-returns
 returns c = search needs
 
--- src/lib.rt:92:1
 returns-2 : tie.Need-returns-2
 returns-2 c = c .refused .ensures ∙ ap refused (c .before .number .ensures) ∙ ap openGiven (sym (c .before .before .before .a .given .1))
 

@@ -6,17 +6,14 @@ use Rattle.abi_station.proofs.KindLaws.{fault-scan}
 use Rattle.abi_station.proofs.scan_of.Statement.{statement}
 use Rattle.abi_station.proofs.scan_of.Tie as tie
 
--- src/lib.rt:47:1
 returns : tie.Need-returns
 unfolding scanOf
 returns c = let s = c .before .args in sym (ap (λ (k : ℕ). scanOf k (s .first) (s .second) (s .third)) (c .match .keys1))
 
--- src/lib.rt:47:1
 returns-2 : tie.Need-returns-2
 unfolding scanOf
 returns-2 c = let s = c .before .args in sym (ap (λ (k : ℕ). scanOf k (s .first) (s .second) (s .third)) (c .match .keys2))
 
--- src/lib.rt:47:1
 returns-3 : tie.Need-returns-3
 returns-3 c = let s = c .before .args in fault-scan (s .kind) (s .first) (s .second) (s .third) (omega (arith, c .match .rest))
 

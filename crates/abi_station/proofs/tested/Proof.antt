@@ -5,27 +5,21 @@ use borrow.Author.Needs.{needs}
 use Rattle.abi_station.proofs.tested.Statement.{statement}
 use Rattle.abi_station.proofs.tested.Tie as tie
 
--- src/lib.rt:161:33
 enum-known-a : tie.Need-enum-known-a
 enum-known-a c = search needs
 
--- src/lib.rt:161:39
 certificate-requires : tie.Need-certificate-requires
 certificate-requires c κs = search needs
 
--- src/lib.rt:162:31
 enum-known-a-2 : tie.Need-enum-known-a-2
 enum-known-a-2 c = search needs
 
--- src/lib.rt:164:21
 number-requires : tie.Need-number-requires
 number-requires c κs = search needs
 
--- src/lib.rt:157:1
 returns : tie.Need-returns
 returns c = c .certificate .ensures ∙ ap marketGiven (sym (c .before .before .a .given .1))
 
--- src/lib.rt:157:1
 returns-2 : tie.Need-returns-2
 returns-2 c =
     (λ i. record { accepted = 0; number = c .number .ensures i; day = 0; intercept = pos 0; basis = pos 0; figure = 0; converted = 0 })

@@ -4,28 +4,31 @@ use native.Mathlib.Omega.{arith}
 use Prim.Native.Nat.{_-_}
 use lib.ListN.{length}
 use denote.Ref.{now}
-use Rattle.chart_sets.proofs.Soundness.{all-fit}
-use Rattle.chart_state.specs.Charts.{pastOf}
-use Rattle.chart_line.specs.Lines.{valuesOf, lineOf}
-use Rattle.chart_refusals.specs.Checks.{refusalOf}
-use Rattle.chart.specs.Calls.{resultOf, decided, accepted, bytesOf}
-use Rattle.chart_line.specs.declared.Values.{Values}
-use Rattle.chart_refusals.specs.declared.Judgement.{Judgement}
-use Rattle.chart.specs.declared.ChartAnswer.the-variants.{Charted}
-use Rattle.chart_state.proofs.Soundness.{sound-chart}
-use Rattle.chart_refusals.proofs.Fine.{FineCall, fine-call}
-use Rattle.chart.proofs.Soundness.{fine-set}
-use Rattle.chart_bounds.proofs.Bounds.{week-facts}
+use Rattle.chart_sets.proofs.Fits.{all-fit}
+use Rattle.chart_rules.specs.Charts.{pastOf}
+use Rattle.chart_rules.specs.Lines.{valuesOf, lineOf}
+use Rattle.chart_rules.specs.Refusals.{refusalOf}
+use Rattle.chart_rules.specs.Calls.{resultOf, decided, accepted, bytesOf}
+use Rattle.chart_rules.specs.declared.Values.{Values}
+use Rattle.chart_rules.specs.declared.Judgement.{Judgement}
+use Rattle.chart_rules.specs.declared.ChartAnswer.the-variants.{Charted}
+use Rattle.chart_rules.proofs.Charts.{sound-chart}
+use Rattle.chart_rules.proofs.Fine.{FineCall, fine-call}
+use Rattle.chart_rules.proofs.Bounds.{week-facts}
 use Rattle.chart_line.proofs.Lines.{values-small}
+use Rattle.chart.proofs.Accepted.{fine-set}
 use borrow.Author.Needs.{needs}
 use Rattle.chart.proofs.answer_at.Statement.{statement}
 use Rattle.chart.proofs.answer_at.Tie as tie
 
 judged : (c : tie.After-judge-call) (j : Judgement) → c .judge-call .result ≡ j
-    → refusalOf (c .before .before .args .chart) (c .before .before .args .week) (now (c .before .before .args .numbers)) (length (now (c .before .before .args .out)) - c .before .before .args .at) ≡ j
+    → let s = c .before .before .args in
+    refusalOf (s .chart) (s .week) (now (s .numbers)) (length (now (s .out)) - s .at) ≡ j
 judged c j e = sym (c .judge-call .ensures) ∙ e
 
-fine : (c : tie.After-enum-told) → FineCall (c .before .before .before .before .args .chart) (c .before .before .before .before .args .week) (now (c .before .before .before .before .args .numbers)) (length (now (c .before .before .before .before .args .out)) - c .before .before .before .before .args .at)
+fine : (c : tie.After-enum-told)
+    → let s = c .before .before .before .before .args in
+    FineCall (s .chart) (s .week) (now (s .numbers)) (length (now (s .out)) - s .at)
 fine c = fine-call _ _ _ _ (judged (c .before .before) _ (c .enum-told .given .1))
 
 sub-room : tie.Need-sub-room
@@ -65,13 +68,17 @@ same-length c = search needs
 returns-2 : tie.Need-returns-2
 unfolding resultOf decided accepted bytesOf
 returns-2 c =
-    let s = c .before .before .before .before .before .before .before .before .before .before in
-    let set = c .before .before .before .before .before .set-of .ensures in
-    let values = c .before .before .before .before .values-of .ensures ∙ ap (valuesOf (s .args .chart) (s .args .week)) set in
-    let put = c .before .before .write-values .ensures .0 in
-    let long : c .before .before .write-values .result - s .args .at ≡ length (lineOf (c .before .before .before .before .values-of .result)) = omega (arith, put .behind) in
+    let written = c .before .before in
+    let valued = written .before .before in
+    let fine-told = valued .before .before in
+    let call-judged = fine-told .before .before in
+    let s = call-judged .before .before in
+    let set = valued .before .set-of .ensures in
+    let values = valued .values-of .ensures ∙ ap (valuesOf (s .args .chart) (s .args .week)) set in
+    let put = written .write-values .ensures .0 in
+    let long : written .write-values .result - s .args .at ≡ length (lineOf (valued .values-of .result)) = omega (arith, put .behind) in
     let long2 = long ∙ ap (λ (v : Values). length (lineOf v)) values in (
-      rw (judged (c .before .before .before .before .before .before .before .before) _ (c .before .before .before .before .before .before .enum-told .given .1)) (λ i. Charted (values i) (long2 i)),
+      rw (judged call-judged _ (fine-told .enum-told .given .1)) (λ i. Charted (values i) (long2 i)),
       record { written = put .written; behind = refl },
     )
 

@@ -3,11 +3,10 @@ use mathlib.Core.Path.{_≡_, refl, sym, ap, _∙_}
 use Prim.Native.Nat.{_-_}
 use lib.ListN.{length}
 use denote.Ref.{now}
-use Rattle.chart_places.specs.ChartPlaces.{chartAt, nextPlaces}
-use Rattle.chart.specs.Calls.{resultOf}
-use Rattle.chart.specs.declared.ChartAnswer.{ChartAnswer}
-use Rattle.chart.proofs.Accepted.{put-by}
-use Rattle.chart.proofs.InPlace.{ready}
+use Rattle.chart_rules.specs.Places.{chartAt, nextPlaces}
+use Rattle.chart_rules.specs.Calls.{resultOf}
+use Rattle.chart_rules.specs.declared.ChartAnswer.{ChartAnswer}
+use Rattle.chart.proofs.Ready.{put-by, ready}
 use borrow.Author.Needs.{needs}
 use Rattle.chart.proofs.chart_set_at.Statement.{statement}
 use Rattle.chart.proofs.chart_set_at.Tie as tie
@@ -38,7 +37,9 @@ set-in-requires c κs = search needs
 
 put-next-requires : tie.Need-put-next-requires
 put-next-requires c κs =
-    let r = ready _ _ _ _ _ _ (answered (c .before .before .before .before .before .before .before) _ (c .before .before .before .values .given .1)) in
+    let charted = c .before .before .before in
+    let a = charted .before .before .before .before in
+    let r = ready _ _ _ _ _ _ (answered a _ (charted .values .given .1)) in
     ((r .full, r .held), (r .time, rw (c .set-in .ensures) (r .fits)))
 
 same-length : tie.Need-same-length
@@ -61,9 +62,10 @@ same-length-4 c = search needs
 
 returns-2 : tie.Need-returns-2
 returns-2 c =
-    let a = c .before .before .before .before .before .before .before .before .before in
+    let charted = c .before .before .before .before .before in
+    let a = charted .before .before .before .before in
     let s = a .before .before .before .before .before .args in
-    let told = c .before .before .before .before .before .values .given .1 in
+    let told = charted .values .given .1 in
     let is = answered a _ told in
     let set = c .before .before .set-in .ensures ∙ ready _ _ _ _ _ _ is .set in
     (is, (c .before .put-next .ensures ∙ ap (nextPlaces (now (s .state)) (s .week)) set, put-by told (a .answer-at .ensures .1)))

@@ -1,8 +1,8 @@
 use borrow.Author.Tests.{lt-ltb, le-ltb}
-use Rattle.chart_refusals.specs.declared.Refusal.the-variants.{UnknownRow}
-use Rattle.chart.specs.Openings.{opening, openOf}
-use Rattle.chart.specs.InPlace.{openIn}
-use Rattle.chart.specs.declared.OpenAnswer.the-variants.{Opened, Refused}
+use Rattle.chart_rules.specs.declared.Refusal.the-variants.{UnknownRow}
+use Rattle.chart_rules.specs.Calls.{opening, openOf}
+use Rattle.chart_rules.specs.InPlace.{openIn}
+use Rattle.chart_rules.specs.declared.OpenAnswer.the-variants.{Opened, Refused}
 use borrow.Author.Needs.{needs}
 use Rattle.chart.proofs.open.Statement.{statement}
 use Rattle.chart.proofs.open.Tie as tie

@@ -11,7 +11,7 @@ use mir.Val.{SFits}
 use Rattle.whole.proofs.Read.{back}
 use Rattle.whole.proofs.Fold.{Going, going-start, going-next, going-done}
 use Rattle.whole.proofs.ListLaws.{orElse, or-step, any-fold}
-use Rattle.chart_bounds.specs.Bounds.{outside, badResult}
+use Rattle.chart_rules.specs.Refusals.{outside, badResult}
 use Rattle.chart_bounds.proofs.bad_result.Statement.{statement}
 use Rattle.chart_bounds.proofs.bad_result.Tie as tie
 

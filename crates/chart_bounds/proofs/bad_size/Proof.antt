@@ -3,7 +3,7 @@ use mathlib.Core.Path.{ap, _∙_}
 use mathlib.Core.Bool.{Bool, _||_}
 use Prim.Native.Nat.{_%_}
 use lib.Dec.{eqb}
-use Rattle.chart_bounds.specs.Bounds.{badSize}
+use Rattle.chart_rules.specs.Refusals.{badSize}
 use borrow.Author.Needs.{needs}
 use Rattle.chart_bounds.proofs.bad_size.Statement.{statement}
 use Rattle.chart_bounds.proofs.bad_size.Tie as tie

@@ -1,5 +1,5 @@
 -- `chart_bounds::bad_week` meets its contract.
-use Rattle.chart_bounds.specs.Bounds.{badWeek}
+use Rattle.chart_rules.specs.Refusals.{badWeek}
 use borrow.Author.Needs.{needs}
 use Rattle.chart_bounds.proofs.bad_week.Statement.{statement}
 use Rattle.chart_bounds.proofs.bad_week.Tie as tie

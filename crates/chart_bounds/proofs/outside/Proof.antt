@@ -1,7 +1,7 @@
 -- `chart_bounds::outside` meets its contract.
 use mathlib.Core.Path.{_∙_}
 use mathlib.Core.Bool.{_||_}
-use Rattle.chart_bounds.specs.Bounds.{outside}
+use Rattle.chart_rules.specs.Refusals.{outside}
 use borrow.Author.Needs.{needs}
 use Rattle.chart_bounds.proofs.outside.Statement.{statement}
 use Rattle.chart_bounds.proofs.outside.Tie as tie

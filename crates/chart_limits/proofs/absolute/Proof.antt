@@ -1,4 +1,4 @@
--- `chart_rules::absolute` meets its contract.
+-- `chart_limits::absolute` meets its contract.
 use mathlib.Core.Path.{ap, _∙_}
 use native.Mathlib.Omega.{arith}
 use Rattle.chart_limits.proofs.Held.{scaled-small}
@@ -6,7 +6,7 @@ use Prim.Native.Nat.{ℕ, _*_}
 use lib.Dec.{leb}
 use lib.IntN.{natAbs}
 use Rattle.whole.proofs.PartLaws.{eq-parts}
-use Rattle.chart_limits.specs.Rules.{absolute}
+use Rattle.chart_rules.specs.Limits.{absolute}
 use borrow.Author.Needs.{needs}
 use Rattle.chart_limits.proofs.absolute.Statement.{statement}
 use Rattle.chart_limits.proofs.absolute.Tie as tie

@@ -1,9 +1,9 @@
--- `chart_rules::at_or_above` meets its contract.
+-- `chart_limits::at_or_above` meets its contract.
 use mathlib.Core.Path.{_∙_}
 use native.Mathlib.Omega.{arith}
 use Rattle.chart_limits.proofs.Held.{scaled-small}
 use lib.Signed.{leZ}
-use Rattle.chart_limits.specs.Rules.{atOrAbove}
+use Rattle.chart_rules.specs.Limits.{atOrAbove}
 use borrow.Author.Needs.{needs}
 use Rattle.chart_limits.proofs.at_or_above.Statement.{statement}
 use Rattle.chart_limits.proofs.at_or_above.Tie as tie

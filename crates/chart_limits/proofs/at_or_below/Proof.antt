@@ -1,10 +1,10 @@
--- `chart_rules::at_or_below` meets its contract.
+-- `chart_limits::at_or_below` meets its contract.
 use mathlib.Core.Path.{ap, _∙_}
 use native.Mathlib.Omega.{arith}
 use Rattle.chart_limits.proofs.Held.{scaled-small}
 use lib.Signed.{leZ}
 use lib.IntN.{negℤ}
-use Rattle.chart_limits.specs.Rules.{atOrBelow}
+use Rattle.chart_rules.specs.Limits.{atOrBelow}
 use borrow.Author.Needs.{needs}
 use Rattle.chart_limits.proofs.at_or_below.Statement.{statement}
 use Rattle.chart_limits.proofs.at_or_below.Tie as tie

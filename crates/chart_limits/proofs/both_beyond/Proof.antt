@@ -1,6 +1,6 @@
--- `chart_rules::both_beyond` meets its contract.
+-- `chart_limits::both_beyond` meets its contract.
 use mathlib.Core.Path.{_∙_}
-use Rattle.chart_sets.proofs.Flags.{and2, or2}
+use Rattle.whole.proofs.Tests.{and2, or2}
 use borrow.Author.Needs.{needs}
 use Rattle.chart_limits.proofs.both_beyond.Statement.{statement}
 use Rattle.chart_limits.proofs.both_beyond.Tie as tie
@@ -27,7 +27,13 @@ either-requires : tie.Need-either-requires
 either-requires c κs = search needs
 
 returns : tie.Need-returns
-returns c = c .either .ensures ∙ or2 (c .before .before .both .ensures ∙ and2 (c .before .before .before .before .before .before .at-or-above .ensures) (c .before .before .before .before .before .at-or-above2 .ensures)) (c .before .both2 .ensures ∙ and2 (c .before .before .before .before .at-or-below .ensures) (c .before .before .before .at-or-below2 .ensures))
+returns c =
+    let below = c .before .before .before in
+    let above = below .before .before in
+    c .either .ensures
+    ∙ or2
+    (c .before .before .both .ensures ∙ and2 (above .before .at-or-above .ensures) (above .at-or-above2 .ensures))
+    (c .before .both2 .ensures ∙ and2 (below .before .at-or-below .ensures) (below .at-or-below2 .ensures))
 
 pub both-beyond-spec : {M : Type 1} → statement M
 both-beyond-spec =

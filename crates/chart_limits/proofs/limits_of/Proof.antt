@@ -1,6 +1,6 @@
--- `chart_rules::limits_of` meets its contract.
+-- `chart_limits::limits_of` meets its contract.
 use mathlib.Core.Path.{_∙_}
-use Rattle.chart_limits.specs.Rows.{limitsOf}
+use Rattle.chart_rules.specs.Rows.{limitsOf}
 use Rattle.chart_limits.proofs.Rows.{no-row}
 use borrow.Author.Needs.{needs}
 use Rattle.chart_limits.proofs.limits_of.Statement.{statement}

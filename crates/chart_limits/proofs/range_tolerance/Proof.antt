@@ -1,6 +1,6 @@
--- `chart_rules::range_tolerance` meets its contract.
+-- `chart_limits::range_tolerance` meets its contract.
 use mathlib.Core.Path.{_∙_}
-use Rattle.chart_limits.specs.Rules.{rangeTolerance}
+use Rattle.chart_rules.specs.Limits.{rangeTolerance}
 use Rattle.chart_limits.proofs.Held.{range-held}
 use borrow.Author.Needs.{needs}
 use Rattle.chart_limits.proofs.range_tolerance.Statement.{statement}

@@ -1,9 +1,9 @@
--- `chart_rules::tolerance` meets its contract.
+-- `chart_limits::tolerance` meets its contract.
 use lib.ListN.{length}
 use mathlib.Core.Path.{_≡_, _∙_}
 use native.Mathlib.Omega.{arith}
-use Rattle.chart_limits.specs.Rules.{tolerance}
-use Rattle.chart_sets.proofs.Soundness.{fit-at}
+use Rattle.chart_rules.specs.Limits.{tolerance}
+use Rattle.chart_sets.proofs.Fits.{fit-at}
 use Rattle.chart_limits.proofs.Held.{tolerance-held}
 use borrow.Author.Needs.{needs}
 use Rattle.chart_limits.proofs.tolerance.Statement.{statement}

@@ -1,6 +1,6 @@
 -- `chart_line::put_flags` meets its contract.
 use Rattle.decimal.proofs.Put.{put-then}
-use Rattle.chart_line.specs.Lines.{flagBytes}
+use Rattle.chart_line.specs.Values.{flagBytes}
 use borrow.Author.Needs.{needs}
 use Rattle.chart_line.proofs.put_flags.Statement.{statement}
 use Rattle.chart_line.proofs.put_flags.Tie as tie
@@ -25,7 +25,13 @@ same-length c = search needs
 
 returns : tie.Need-returns
 unfolding flagBytes
-returns c = put-then (put-then (put-then (put-then (c .before .before .before .before .before .before .before .before .before .before .before .before .before .before .before .before .before .before .put-flag .ensures) (c .before .before .before .before .before .before .before .before .before .before .before .before .before .before .put-flag2 .ensures)) (c .before .before .before .before .before .before .before .before .before .before .put-flag3 .ensures)) (c .before .before .before .before .before .before .put-flag4 .ensures)) (c .before .before .put-flag5 .ensures)
+returns c =
+    let rtl = c .before .before in
+    let ral = rtl .before .before .before .before in
+    let run = ral .before .before .before .before in
+    let tl = run .before .before .before .before in
+    let al = tl .before .before .before .before in
+    put-then (put-then (put-then (put-then (al .put-flag .ensures) (tl .put-flag2 .ensures)) (run .put-flag3 .ensures)) (ral .put-flag4 .ensures)) (rtl .put-flag5 .ensures)
 
 pub put-flags-spec : {M : Type 1} → statement M
 put-flags-spec =

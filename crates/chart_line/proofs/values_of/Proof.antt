@@ -4,13 +4,13 @@ use mir.Syntax.{w32}
 use mir.Val.{SFits}
 use lib.Dec.{leb}
 use Rattle.whole.proofs.Read.{back}
-use Rattle.chart_limits.specs.declared.Limits.{Limits}
-use Rattle.chart_limits.specs.Rules.{absolute, tolerance, rangeTolerance}
-use Rattle.chart_run.specs.Run.{run}
-use Rattle.chart_state.specs.Charts.{pastOf}
-use Rattle.chart_line.specs.Lines.{valuesOf}
+use Rattle.chart_rules.specs.declared.Limits.{Limits}
+use Rattle.chart_rules.specs.Limits.{absolute, tolerance, rangeTolerance}
+use Rattle.chart_rules.specs.Run.{run}
+use Rattle.chart_rules.specs.Charts.{pastOf}
+use Rattle.chart_rules.specs.Lines.{valuesOf}
 use borrow.Author.Needs.{needs}
-use Rattle.chart_limits.specs.Rows.{SmallLimits}
+use Rattle.chart_limits.specs.Small.{SmallLimits}
 use Rattle.chart_limits.proofs.Rows.{row-small}
 use Rattle.chart_line.proofs.values_of.Statement.{statement}
 use Rattle.chart_line.proofs.values_of.Tie as tie
@@ -37,8 +37,12 @@ range-tolerance-requires c κs = search needs
 returns : tie.Need-returns
 unfolding valuesOf
 returns c =
-    let s = c .before .before .before .before .before .before .before .before .before in
-    let l = c .before .before .before .before .before .before .before .before .limits-of .ensures in
+    let at-run = c .before .before .before .before in
+    let at-tolerance = at-run .before in
+    let at-absolute = at-tolerance .before in
+    let at-limits = at-absolute .before .before in
+    let s = at-limits .before in
+    let l = at-limits .limits-of .ensures in
     let f : SFits w32 (s .args .s .sum) = search needs in
     let z = back f in
     let x = s .args .s in
@@ -47,9 +51,9 @@ returns c =
       count = x .count;
       sum = z .is i;
       range = x .range;
-      al = (c .before .before .before .before .before .before .absolute .ensures ∙ ap (λ (m : Limits). absolute (m .al) x) l) i;
-      tl = (c .before .before .before .before .before .tolerance .ensures ∙ ap (λ (m : Limits). tolerance (m .tl) x (pastOf (s .args .chart))) l) i;
-      run = (c .before .before .before .before .run .ensures ∙ ap (λ (m : Limits). run (m .run) x (pastOf (s .args .chart))) l) i;
+      al = (at-absolute .absolute .ensures ∙ ap (λ (m : Limits). absolute (m .al) x) l) i;
+      tl = (at-tolerance .tolerance .ensures ∙ ap (λ (m : Limits). tolerance (m .tl) x (pastOf (s .args .chart))) l) i;
+      run = (at-run .run .ensures ∙ ap (λ (m : Limits). run (m .run) x (pastOf (s .args .chart))) l) i;
       ral = ap (λ (m : Limits). leb (m .ral) (x .range)) l i;
       rtl = (c .before .range-tolerance .ensures ∙ ap (λ (m : Limits). rangeTolerance (m .rtl) x (pastOf (s .args .chart))) l) i;
     }

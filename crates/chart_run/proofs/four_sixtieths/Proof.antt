@@ -30,10 +30,11 @@ add-requires-3 c κs = search needs
 
 returns : tie.Need-returns
 returns c =
-    let a = c .before .before .before .before .before .before .sixtieths .ensures in
-    let b = c .before .before .before .before .before .sixtieths2 .ensures in
-    let d = c .before .before .before .before .sixtieths3 .ensures in
-    let e = c .before .before .before .sixtieths4 .ensures in
+    let fourth = c .before .before .before in
+    let a = fourth .before .before .before .sixtieths .ensures in
+    let b = fourth .before .before .sixtieths2 .ensures in
+    let d = fourth .before .sixtieths3 .ensures in
+    let e = fourth .sixtieths4 .ensures in
     (c .add3 .ensures .is ∙ plus (a .0) (c .before .add2 .ensures .is ∙ plus (b .0) (c .before .before .add .ensures .is ∙ plus (d .0) (e .0 ∙ sym (+ℤ-idr _)))), omega arith)
 
 pub four-sixtieths-spec : {M : Type 1} → statement M

@@ -1,8 +1,7 @@
 -- `chart_run::one_side` meets its contract.
 use mathlib.Core.Path.{sym, _∙_}
-use Rattle.chart_sets.proofs.Flags.{and2, or2}
-use Rattle.whole.proofs.Tests.{and-true}
-use Rattle.chart_run.specs.Run.{oneSide}
+use Rattle.whole.proofs.Tests.{and-true, and2, or2}
+use Rattle.chart_rules.specs.Run.{oneSide}
 use borrow.Author.Needs.{needs}
 use Rattle.chart_run.proofs.one_side.Statement.{statement}
 use Rattle.chart_run.proofs.one_side.Tie as tie
@@ -55,10 +54,20 @@ either-requires c κs = search needs
 returns : tie.Need-returns
 unfolding oneSide
 returns c =
+    let down = c .before in
+    let below-w = down .before .before .before in
+    let below-q = below-w .before in
+    let below-p = below-q .before in
+    let below-s = below-p .before in
+    let up = below-s .before in
+    let above-w = up .before .before .before in
+    let above-q = above-w .before in
+    let above-p = above-q .before in
+    let above-s = above-p .before in
     c .either .ensures
     ∙ or2
-    (c .before .before .before .before .before .before .before .before .both3 .ensures ∙ and2 (c .before .before .before .before .before .before .before .before .before .before .before .before .before .before .above .ensures) (c .before .before .before .before .before .before .before .before .before .both2 .ensures ∙ and2 (c .before .before .before .before .before .before .before .before .before .before .before .before .before .above2 .ensures) (c .before .before .before .before .before .before .before .before .before .before .both .ensures ∙ and2 (c .before .before .before .before .before .before .before .before .before .before .before .before .above3 .ensures) (c .before .before .before .before .before .before .before .before .before .before .before .above4 .ensures ∙ sym (and-true _)))))
-    (c .before .both6 .ensures ∙ and2 (c .before .before .before .before .before .before .before .below .ensures) (c .before .before .both5 .ensures ∙ and2 (c .before .before .before .before .before .before .below2 .ensures) (c .before .before .before .both4 .ensures ∙ and2 (c .before .before .before .before .before .below3 .ensures) (c .before .before .before .before .below4 .ensures ∙ sym (and-true _)))))
+    (up .both3 .ensures ∙ and2 (above-s .above .ensures) (up .before .both2 .ensures ∙ and2 (above-p .above2 .ensures) (up .before .before .both .ensures ∙ and2 (above-q .above3 .ensures) (above-w .above4 .ensures ∙ sym (and-true _)))))
+    (down .both6 .ensures ∙ and2 (below-s .below .ensures) (down .before .both5 .ensures ∙ and2 (below-p .below2 .ensures) (down .before .before .both4 .ensures ∙ and2 (below-q .below3 .ensures) (below-w .below4 .ensures ∙ sym (and-true _)))))
 
 pub one-side-spec : {M : Type 1} → statement M
 one-side-spec =

@@ -1,11 +1,11 @@
 -- `chart_run::run` meets its contract.
-use Rattle.chart_sets.specs.Sets.{blankSet}
+use Rattle.chart_rules.specs.Sets.{blankSet}
 use lib.ListN.{length, take, getD}
 use Prim.Native.Nat.{ℕ}
-use Rattle.chart_sets.proofs.Flags.{or2}
-use Rattle.chart_run.specs.Run.{run}
+use Rattle.whole.proofs.Tests.{or2}
+use Rattle.chart_rules.specs.Run.{run}
 use mathlib.Core.Path.{_≡_, sym, ap, _∙_}
-use Rattle.chart_sets.specs.Soundness.{SetFits}
+use Rattle.chart_sets.specs.Fits.{SetFits}
 use Rattle.chart_run.proofs.Held.{three-fit, fourth-fits, all-four, run-short, run-three, run-four}
 use borrow.Author.Needs.{needs}
 use Rattle.chart_run.proofs.run.Statement.{statement}
@@ -18,8 +18,12 @@ four c = search needs
 three : (c : tie.Else1) → SetFits (getD (c .before .args .t4) 0 blankSet) × SetFits (getD (c .before .args .t4) 1 blankSet) × SetFits (getD (c .before .args .t4) 2 blankSet)
 three c = let s = c .before in three-fit blankSet (s .args .held) (s .args .t4) (c .if1 .left) (four s) (s .pre .1 .1)
 
-fourth : (c : tie.Else2) → SetFits (getD (c .before .before .before .before .before .before .args .t4) 3 blankSet)
-fourth c = let s = c .before .before .before .before .before .before in fourth-fits blankSet (s .args .held) (s .args .t4) (c .before .before .before .before .before .if1 .left) (c .if2 .left) (four s) (s .pre .1 .1)
+-- from the test for a fourth set back to the test for three
+abbrev three-held : tie.Else2 → tie.Else1
+three-held c = c .before .before .before .before .before
+
+fourth : (c : tie.Else2) → SetFits (getD (three-held c .before .args .t4) 3 blankSet)
+fourth c = let s = three-held c .before in fourth-fits blankSet (s .args .held) (s .args .t4) (three-held c .if1 .left) (c .if2 .left) (four s) (s .pre .1 .1)
 
 returns : tie.Need-returns
 returns c = run-short _ _ blankSet _ _ (c .if1 .taken) (four (c .before))
@@ -41,7 +45,8 @@ run-by-requires c κs =
 
 returns-2 : tie.Need-returns-2
 returns-2 c =
-    let s = c .before .before .before .before .before .before in
+    let held = c .before .before .before .before .before in
+    let s = held .before in
     c .before .run-by .ensures ∙ run-three (s .args .limit) (s .args .s) blankSet (s .args .t4) (four s) ∙ ap (λ (n : ℕ). run (s .args .limit) (s .args .s) (take n (s .args .t4))) (sym (c .if2 .taken))
 
 array-copy-out-x : tie.Need-array-copy-out-x
@@ -49,23 +54,26 @@ array-copy-out-x c = search needs
 
 run-by-requires-2 : tie.Need-run-by-requires-2
 run-by-requires-2 c κs =
-    let s = c .before .before .before .before .before .before .before in
-    let f = three (c .before .before .before .before .before .before) in
-    let x = fourth (c .before) in
+    let four-held = c .before in
+    let s = three-held four-held .before in
+    let f = three (three-held four-held) in
+    let x = fourth four-held in
     (s .pre .0, (s .pre .1 .0, f .0, f .1, x))
 
 run-by-requires-3 : tie.Need-run-by-requires-3
 run-by-requires-3 c κs =
-    let s = c .before .before .before .before .before .before .before .before in
-    let f = three (c .before .before .before .before .before .before .before) in
-    let x = fourth (c .before .before) in
+    let four-held = c .before .before in
+    let s = three-held four-held .before in
+    let f = three (three-held four-held) in
+    let x = fourth four-held in
     (s .pre .0, (s .pre .1 .0, f .0, f .2, x))
 
 run-by-requires-4 : tie.Need-run-by-requires-4
 run-by-requires-4 c κs =
-    let s = c .before .before .before .before .before .before .before .before .before in
-    let f = three (c .before .before .before .before .before .before .before .before) in
-    let x = fourth (c .before .before .before) in
+    let four-held = c .before .before .before in
+    let s = three-held four-held .before in
+    let f = three (three-held four-held) in
+    let x = fourth four-held in
     (s .pre .0, (s .pre .1 .0, f .1, f .2, x))
 
 either-requires : tie.Need-either-requires
@@ -79,9 +87,14 @@ either-requires-3 c κs = search needs
 
 returns-3 : tie.Need-returns-3
 returns-3 c =
-    let s = c .before .before .before .before .before .before .before .before .before .before .before .before .before in
-    c .either3 .ensures ∙ or2 (c .before .before .before .before .before .before .before .before .run-by .ensures) (c .before .either2 .ensures ∙ or2 (c .before .before .before .before .before .run-by2 .ensures) (c .before .before .either .ensures ∙ or2 (c .before .before .before .before .run-by3 .ensures) (c .before .before .before .run-by4 .ensures)))
-    ∙ run-four _ _ _ (s .args .held) (s .args .t4) (all-four (s .args .held) (c .before .before .before .before .before .before .before .before .before .before .before .before .if1 .left) (c .before .before .before .before .before .before .before .if2 .left)) (four s)
+    let last = c .before .before .before in
+    let third = last .before in
+    let second = third .before in
+    let four-held = second .before .before in
+    let first = four-held .before in
+    let s = three-held four-held .before in
+    c .either3 .ensures ∙ or2 (first .run-by .ensures) (c .before .either2 .ensures ∙ or2 (second .run-by2 .ensures) (c .before .before .either .ensures ∙ or2 (third .run-by3 .ensures) (last .run-by4 .ensures)))
+    ∙ run-four _ _ _ (s .args .held) (s .args .t4) (all-four (s .args .held) (three-held four-held .if1 .left) (four-held .if2 .left)) (four s)
 
 pub run-spec : {M : Type 1} → statement M
 run-spec =

@@ -1,10 +1,10 @@
 -- `chart_run::run_by` meets its contract.
 use mathlib.Core.Path.{ap, _∙_}
-use Rattle.chart_sets.proofs.Flags.{and2}
+use Rattle.whole.proofs.Tests.{and2}
 use Prim.Native.Nat.{ℕ, _*_}
 use lib.Dec.{ltb}
 use lib.IntN.{natAbs}
-use Rattle.chart_run.specs.Run.{runBy}
+use Rattle.chart_rules.specs.Run.{runBy}
 use borrow.Author.Needs.{needs}
 use Rattle.chart_run.proofs.run_by.Statement.{statement}
 use Rattle.chart_run.proofs.run_by.Tie as tie

@@ -5,7 +5,7 @@ use native.Mathlib.Omega.{arith}
 use lib.IntN.{_*ℤ_}
 use Rattle.whole.specs.Parts.{Within, up, down}
 use Rattle.whole.proofs.PartLaws.{either, product}
-use Rattle.chart_run.specs.Run.{sixtieths}
+use Rattle.chart_rules.specs.Run.{sixtieths}
 use Rattle.chart_run.proofs.Averages.{sixty-over}
 use borrow.Author.Needs.{needs}
 use Rattle.chart_run.proofs.sixtieths.Statement.{statement}

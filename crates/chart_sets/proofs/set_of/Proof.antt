@@ -4,9 +4,9 @@ use Rattle.whole.proofs.ListLaws.{largest-within, smallest-within}
 use mathlib.Core.Path.{sym, ap, _∙_}
 use native.Mathlib.Omega.{arith}
 use lib.IntN.{natAbs, _-ℤ_}
-use Rattle.chart_bounds.proofs.Bounds.{size-facts, each-inside}
-use Rattle.chart_sets.proofs.Sums.{diff-length, each-diff}
-use Rattle.chart_sets.specs.Sets.{differences, setOf}
+use Rattle.chart_rules.proofs.Bounds.{size-facts, each-inside}
+use Rattle.chart_rules.proofs.Sets.{diff-length, each-diff}
+use Rattle.chart_rules.specs.Sets.{differences, setOf}
 use borrow.Author.Needs.{needs}
 use Rattle.chart_sets.proofs.set_of.Statement.{statement}
 use Rattle.chart_sets.proofs.set_of.Tie as tie

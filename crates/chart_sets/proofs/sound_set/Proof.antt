@@ -4,8 +4,8 @@ use Prim.Native.Nat.{_*_}
 use lib.IntN.{ℤ, natAbs}
 use lib.Dec.{leb}
 use borrow.Author.Tests.{le-leb, lt-leb}
-use Rattle.chart_sets.specs.Soundness.{soundSet}
-use Rattle.chart_sets.proofs.Flags.{and2}
+use Rattle.chart_rules.specs.Charts.{soundSet}
+use Rattle.whole.proofs.Tests.{and2}
 use borrow.Author.Needs.{needs}
 use Rattle.chart_sets.proofs.sound_set.Statement.{statement}
 use Rattle.chart_sets.proofs.sound_set.Tie as tie
@@ -33,9 +33,10 @@ both-requires c κs = search needs
 returns-3 : tie.Need-returns-3
 unfolding soundSet
 returns-3 c =
-    let s = c .before .before .before .before .before .before .args .s in
+    let counted = c .before .before .before .before in
+    let s = counted .before .before .args .s in
     let sum = c .before .before .size-at-most .ensures ∙ ap (λ (z : ℤ). leb (natAbs z) (10000 * s .count)) (c .before .before .before .sum-of .ensures) in
-    rw (le-leb 1 _ (c .before .before .before .before .before .if1 .left), le-leb _ 5 (c .before .before .before .before .if2 .left)) (c .both .ensures ∙ and2 sum refl)
+    rw (le-leb 1 _ (counted .before .if1 .left), le-leb _ 5 (counted .if2 .left)) (c .both .ensures ∙ and2 sum refl)
 
 pub sound-set-spec : {M : Type 1} → statement M
 sound-set-spec =

@@ -1,5 +1,5 @@
 -- `chart_sets::step` meets its contract.
-use Rattle.chart_sets.proofs.Sums.{tally-is}
+use Rattle.chart_sets.proofs.Tallies.{tally-is}
 use borrow.Author.Needs.{needs}
 use Rattle.chart_sets.proofs.step.Statement.{statement}
 use Rattle.chart_sets.proofs.step.Tie as tie

@@ -4,8 +4,9 @@ use Rattle.whole.proofs.ListLaws.{each-at}
 use lib.IntN.{ℤ, +ℤ-idl, pos, _-ℤ_}
 use mir.Syntax.{w64}
 use mir.Val.{Fits}
-use Rattle.chart_bounds.proofs.Bounds.{size-facts, each-inside}
-use Rattle.chart_sets.proofs.Sums.{each-diff, diff-at, diff-length, step-sum, tally-sum, tally-largest, tally-smallest}
+use Rattle.chart_rules.proofs.Bounds.{size-facts, each-inside}
+use Rattle.chart_rules.proofs.Sets.{each-diff, diff-at, diff-length}
+use Rattle.chart_sets.proofs.Tallies.{step-sum, tally-sum, tally-largest, tally-smallest}
 use mathlib.Core.Path.{_≡_, refl, sym, ap, subst, _∙_}
 use native.Mathlib.Omega.{arith}
 use Prim.Native.Nat.{ℕ, _+_, _-_, _*_, _/_, _%_, _≤_, _<_}
@@ -13,7 +14,7 @@ use lib.ListN.{length, getD}
 use Rattle.whole.specs.Parts.{Within, up, down}
 use Rattle.whole.proofs.Read.{back-in}
 use Rattle.whole.proofs.Fold.{Going, going-start, going-step, going-done}
-use Rattle.chart_sets.specs.Sets.{differences}
+use Rattle.chart_rules.specs.Sets.{differences}
 use Rattle.chart_sets.specs.Tallies.{stepOf}
 use borrow.Author.Needs.{zero≤}
 use Rattle.chart_sets.proofs.tallied.Statement.{statement}
@@ -71,6 +72,10 @@ sizes c = size-facts _ (c .pre .0)
 value : (c : tie.Start Inv-loop μ-loop) (i : ℕ) → Within 0 10000 (getD (c .args .numbers .now) i (pos 0))
 value c i = each-at 0 10000 (c .args .numbers .now) i (each-inside _ (c .pre .1))
 
+-- from a turn of the loop back to the entry
+abbrev entry : tie.In-loop Inv-loop μ-loop → tie.Start Inv-loop μ-loop
+entry turn = turn .before .before .before .before .before
+
 shared-slice-copy-out-t7 : tie.Need-shared-slice-copy-out-t7 Inv-loop μ-loop
 shared-slice-copy-out-t7 c = omega (arith, sizes c)
 
@@ -88,48 +93,50 @@ loop-holds : tie.Need-loop-holds Inv-loop μ-loop
 loop-holds c = (zero≤, refl, no-sum, going-start _ _ _)
 
 mul-t14 : tie.Need-mul-t14 Inv-loop μ-loop
-mul-t14 c = first-fits (length (c .before .before .before .before .before .args .numbers .now)) (c .before .loop .k) (sizes (c .before .before .before .before .before) .1) (c .loop-test .taken)
+mul-t14 c = first-fits (length (entry c .args .numbers .now)) (c .before .loop .k) (sizes (entry c) .1) (c .loop-test .taken)
 
 mul-t15 : tie.Need-mul-t15 Inv-loop μ-loop
-mul-t15 c = first-byte (length (c .before .before .before .before .before .args .numbers .now)) (c .before .loop .k) (sizes (c .before .before .before .before .before) .1) (c .loop-test .taken)
+mul-t15 c = first-byte (length (entry c .args .numbers .now)) (c .before .loop .k) (sizes (entry c) .1) (c .loop-test .taken)
 
 shared-slice-copy-out-t17 : tie.Need-shared-slice-copy-out-t17 Inv-loop μ-loop
-shared-slice-copy-out-t17 c = first-in (length (c .before .before .before .before .before .args .numbers .now)) (c .before .loop .k) (sizes (c .before .before .before .before .before) .1) (c .loop-test .taken)
+shared-slice-copy-out-t17 c = first-in (length (entry c .args .numbers .now)) (c .before .loop .k) (sizes (entry c) .1) (c .loop-test .taken)
 
 mul-t19 : tie.Need-mul-t19 Inv-loop μ-loop
-mul-t19 c = first-fits (length (c .before .before .before .before .before .before .args .numbers .now)) (c .before .before .loop .k) (sizes (c .before .before .before .before .before .before) .1) (c .before .loop-test .taken)
+mul-t19 c = let turn = c .before in first-fits (length (entry turn .args .numbers .now)) (turn .before .loop .k) (sizes (entry turn) .1) (turn .loop-test .taken)
 
 add-t20 : tie.Need-add-t20 Inv-loop μ-loop
-add-t20 c = second-fits (length (c .before .before .before .before .before .before .args .numbers .now)) (c .before .before .loop .k) (sizes (c .before .before .before .before .before .before) .1) (c .before .loop-test .taken)
+add-t20 c = let turn = c .before in second-fits (length (entry turn .args .numbers .now)) (turn .before .loop .k) (sizes (entry turn) .1) (turn .loop-test .taken)
 
 mul-t21 : tie.Need-mul-t21 Inv-loop μ-loop
-mul-t21 c = second-byte (length (c .before .before .before .before .before .before .args .numbers .now)) (c .before .before .loop .k) (sizes (c .before .before .before .before .before .before) .1) (c .before .loop-test .taken)
+mul-t21 c = let turn = c .before in second-byte (length (entry turn .args .numbers .now)) (turn .before .loop .k) (sizes (entry turn) .1) (turn .loop-test .taken)
 
 shared-slice-copy-out-t23 : tie.Need-shared-slice-copy-out-t23 Inv-loop μ-loop
-shared-slice-copy-out-t23 c = second-in (length (c .before .before .before .before .before .before .args .numbers .now)) (c .before .before .loop .k) (sizes (c .before .before .before .before .before .before) .1) (c .before .loop-test .taken)
+shared-slice-copy-out-t23 c = let turn = c .before in second-in (length (entry turn .args .numbers .now)) (turn .before .loop .k) (sizes (entry turn) .1) (turn .loop-test .taken)
 
 step-requires : tie.Need-step-requires Inv-loop μ-loop
 step-requires c κs =
-    let s = c .before .before .before .before .before .before .before in
-    let k = c .before .before .before .loop .k in
+    let turn = c .before .before in
+    let s = entry turn in
+    let k = turn .before .loop .k in
     let a = value s (2 * k) in
     let b = value s (2 * k + 1) in
-    (small-sum (length (s .args .numbers .now)) k (sizes s .1) (c .before .before .loop-test .taken) _ (c .before .before .before .loop .inv .2), (rw ((back-in a tt tt) .is) a, rw ((back-in b tt tt) .is) b))
+    (small-sum (length (s .args .numbers .now)) k (sizes s .1) (turn .loop-test .taken) _ (turn .before .loop .inv .2), (rw ((back-in a tt tt) .is) a, rw ((back-in b tt tt) .is) b))
 
 add-k : tie.Need-add-k Inv-loop μ-loop
-add-k c = next-fits (length (c .before .before .before .before .before .before .before .before .args .numbers .now)) (c .before .before .before .before .loop .k) (sizes (c .before .before .before .before .before .before .before .before) .1) (c .before .before .before .loop-test .taken)
+add-k c = let turn = c .before .before .before in next-fits (length (entry turn .args .numbers .now)) (turn .before .loop .k) (sizes (entry turn) .1) (turn .loop-test .taken)
 
 loop-less : tie.Need-loop-less Inv-loop μ-loop
 loop-less c = omega arith
 
 loop-again : tie.Need-loop-again Inv-loop μ-loop
 loop-again c =
-    let s = c .before .before .before .before .before .before .before .before in
+    let turn = c .before .before .before in
+    let s = entry turn in
     let numbers = s .args .numbers .now in
-    let k = c .before .before .before .before .loop .k in
-    let t = c .before .before .before .before .loop .t in
-    let l = c .before .before .before .before .loop .inv in
-    let more : k < length numbers / 2 = c .before .before .before .loop-test .taken in
+    let k = turn .before .loop .k in
+    let t = turn .before .loop .t in
+    let l = turn .before .loop .inv in
+    let more : k < length numbers / 2 = turn .loop-test .taken in
     let x = back-in (value s (2 * k)) tt tt in
     let y = back-in (value s (2 * k + 1)) tt tt in
     let e : c .step .result ≡ stepOf t (getD (differences numbers) k (pos 0)) =

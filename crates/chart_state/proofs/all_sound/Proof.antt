@@ -1,9 +1,9 @@
 -- `chart_state::all_sound` meets its contract.
-use Rattle.chart_sets.proofs.Flags.{or-right, and2}
+use Rattle.whole.proofs.Tests.{or-right, and2}
 use lib.Dec.{ltb}
 use lib.IntN.{pos}
-use Rattle.chart_sets.specs.declared.ChartSet.{ChartSet}
-use Rattle.chart_sets.specs.Soundness.{soundSet}
+use Rattle.chart_rules.specs.declared.ChartSet.{ChartSet}
+use Rattle.chart_rules.specs.Charts.{soundSet}
 use lib.ListN.{length}
 use mathlib.Core.Path.{_≡_, _∙_}
 use Rattle.chart_state.proofs.Places.{all-held}
@@ -58,14 +58,18 @@ both-requires-3 c κs = search needs
 
 returns : tie.Need-returns
 returns c =
-    let s = c .before .before .before .before .before .before .before .before .before .before .before .before .before .before .before in
+    let fourth = c .before .before .before in
+    let third = fourth .before .before .before in
+    let second = third .before .before .before in
+    let first = second .before .before .before in
+    let s = first .before .before .before in
     let four : length (s .args .t1) ≡ 4 = search needs in
     let blank : ChartSet = record { count = 0; sum = pos 0; range = 0 } in
     c .both3 .ensures
-    ∙ and2 (c .before .before .before .before .before .before .before .before .before .before .before .before .either .ensures ∙ or-right (ltb (s .args .held) 1) (c .before .before .before .before .before .before .before .before .before .before .before .before .before .sound-set .ensures))
-    (c .before .both2 .ensures ∙ and2 (c .before .before .before .before .before .before .before .before .before .either2 .ensures ∙ or-right (ltb (s .args .held) 2) (c .before .before .before .before .before .before .before .before .before .before .sound-set2 .ensures))
-    (c .before .before .both .ensures ∙ and2 (c .before .before .before .before .before .before .either3 .ensures ∙ or-right (ltb (s .args .held) 3) (c .before .before .before .before .before .before .before .sound-set3 .ensures))
-    (c .before .before .before .either4 .ensures ∙ or-right (ltb (s .args .held) 4) (c .before .before .before .before .sound-set4 .ensures))))
+    ∙ and2 (first .either .ensures ∙ or-right (ltb (s .args .held) 1) (first .before .sound-set .ensures))
+    (c .before .both2 .ensures ∙ and2 (second .either2 .ensures ∙ or-right (ltb (s .args .held) 2) (second .before .sound-set2 .ensures))
+    (c .before .before .both .ensures ∙ and2 (third .either3 .ensures ∙ or-right (ltb (s .args .held) 3) (third .before .sound-set3 .ensures))
+    (fourth .either4 .ensures ∙ or-right (ltb (s .args .held) 4) (fourth .before .sound-set4 .ensures))))
     ∙ all-held soundSet blank (s .args .held) (s .args .t1) four
 
 pub all-sound-spec : {M : Type 1} → statement M

@@ -1,7 +1,7 @@
 -- `chart_state::sound` meets its contract.
 use mathlib.Core.Path.{refl, _∙_}
-use Rattle.chart_sets.proofs.Flags.{and2}
-use Rattle.chart_state.specs.Charts.{sound}
+use Rattle.whole.proofs.Tests.{and2}
+use Rattle.chart_rules.specs.Charts.{sound}
 use borrow.Author.Needs.{needs}
 use Rattle.chart_state.proofs.sound.Statement.{statement}
 use Rattle.chart_state.proofs.sound.Tie as tie

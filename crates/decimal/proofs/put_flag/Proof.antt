@@ -20,7 +20,9 @@ same-length : tie.Need-same-length
 same-length c = search needs
 
 returns : tie.Need-returns
-returns c = put-then (c .before .before .before .before .before .before .before .put-byte .ensures) (put-is (c .before .before .put-byte2 .ensures) (ap (λ (b : ℕ). b ∷ []) (c .before .before .before .flag-byte .ensures)))
+returns c =
+    let at-flag-byte = c .before .before .before in
+    put-then (at-flag-byte .before .before .before .before .put-byte .ensures) (put-is (c .before .before .put-byte2 .ensures) (ap (λ (b : ℕ). b ∷ []) (at-flag-byte .flag-byte .ensures)))
 
 pub put-flag-spec : {M : Type 1} → statement M
 put-flag-spec =

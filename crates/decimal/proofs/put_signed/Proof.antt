@@ -31,7 +31,10 @@ put-byte-requires-2 : tie.Need-put-byte-requires-2
 put-byte-requires-2 c κs = search needs
 
 put-number-requires : tie.Need-put-number-requires
-put-number-requires c κs = omega (arith, (c .before .before .before) .put-byte2 .ensures .behind, (c .before .before .before .before .before .before .before) .put-byte .ensures .behind, (c .before .before .before) .put-byte2 .kept .0, (c .before .before .before .before .before .before .before) .put-byte .kept .0, width (c .before .before .before .before .before .before .before .before .before .before), (c .before .before .before .before .before .before .before .before .before .before .before .before) .pre)
+put-number-requires c κs =
+    let at-put-byte2 = c .before .before .before in
+    let at-put-byte = at-put-byte2 .before .before .before .before in
+    omega (arith, at-put-byte2 .put-byte2 .ensures .behind, at-put-byte .put-byte .ensures .behind, at-put-byte2 .put-byte2 .kept .0, at-put-byte .put-byte .kept .0, width (at-put-byte .before .before .before), at-put-byte .before .before .before .before .before .pre)
 
 put-field-requires : tie.Need-put-field-requires
 put-field-requires c κs = omega (arith, width (c .before .before))
@@ -40,13 +43,20 @@ same-length : tie.Need-same-length
 same-length c = search needs
 
 returns : tie.Need-returns
-returns c = put-is (put-then (put-then ((c .before .before .before .before .before .before .before .before .before .before) .put-byte .ensures) ((c .before .before .before .before .before .before) .put-byte2 .ensures)) ((c .before .before) .put-number .ensures)) (ap (λ (n : ℕ). 32 ∷ 45 ∷ show n) (size (c .before .before .before .before .before .before .before .before .before .before .before .before .before)) ∙ ap (λ (l : List ℕ). 32 ∷ l) (show-below ((c .before .before .before .before .before .before .before .before .before .before .before .before .before .before .before) .args .z) (sym (below-zero ((c .before .before .before .before .before .before .before .before .before .before .before .before .before .before .before) .args .z) ((c .before .before .before .before .before .before .before .before .before .before .before .before .before .before .before) .fits .z)) ∙ (c .before .before .before .before .before .before .before .before .before .before .before .before) .if1 .taken)))
+returns c =
+    let at-put-number-arg = c .before .before .before in
+    let at-put-byte2 = at-put-number-arg .before .before .before in
+    let at-put-byte = at-put-byte2 .before .before .before .before in
+    let s = at-put-byte .before .before .before .before .before in
+    put-is (put-then (put-then (at-put-byte .put-byte .ensures) (at-put-byte2 .put-byte2 .ensures)) (c .before .before .put-number .ensures)) (ap (λ (n : ℕ). 32 ∷ 45 ∷ show n) (size (at-put-byte .before .before .before)) ∙ ap (λ (l : List ℕ). 32 ∷ l) (show-below (s .args .z) (sym (below-zero (s .args .z) (s .fits .z)) ∙ at-put-byte .before .before .if1 .taken)))
 
 same-length-2 : tie.Need-same-length-2
 same-length-2 c = search needs
 
 returns-2 : tie.Need-returns-2
-returns-2 c = put-is ((c .before .before) .put-field .ensures) (ap (λ (n : ℕ). 32 ∷ show n) (size (c .before .before .before .before .before)) ∙ ap (λ (l : List ℕ). 32 ∷ l) (show-above ((c .before .before .before .before .before .before .before) .args .z) (sym (below-zero ((c .before .before .before .before .before .before .before) .args .z) ((c .before .before .before .before .before .before .before) .fits .z)) ∙ (c .before .before .before .before) .if1 .left)))
+returns-2 c =
+    let at-magnitude = c .before .before .before .before .before in
+    put-is (c .before .before .put-field .ensures) (ap (λ (n : ℕ). 32 ∷ show n) (size at-magnitude) ∙ ap (λ (l : List ℕ). 32 ∷ l) (show-above (at-magnitude .before .before .args .z) (sym (below-zero (at-magnitude .before .before .args .z) (at-magnitude .before .before .fits .z)) ∙ c .before .before .before .before .if1 .left)))
 
 pub put-signed-spec : {M : Type 1} → statement M
 put-signed-spec =

@@ -35,10 +35,11 @@ four c =
     let s = c .before .before .before .before in
     join-fits 3 (s .args .three) (getD (s .args .t4) 2 noSet) (three s) (past s 2 (omega arith) .set) (c .plus .ensures)
 
-five-is : (c : tie.After-plus2) → c .plus2 .result
-    ≡ plus (plus (plus (plus (c .before .before .before .before .before .before .args .set) (getD (c .before .before .before .before .before .before .args .t4) 0 noSet)) (getD (c .before .before .before .before .before .before .args .t4) 1 noSet)) (getD (c .before .before .before .before .before .before .args .t4) 2 noSet)) (getD (c .before .before .before .before .before .before .args .t4) 3 noSet)
+five-is : (c : tie.After-plus2) → let at-plus-arg = c .before .before .before in let s = at-plus-arg .before .before .before .args in c .plus2 .result
+    ≡ plus (plus (plus (plus (s .set) (getD (s .t4) 0 noSet)) (getD (s .t4) 1 noSet)) (getD (s .t4) 2 noSet)) (getD (s .t4) 3 noSet)
 five-is c =
-    let s = c .before .before .before .before .before .before in
+    let at-plus-arg = c .before .before .before in
+    let s = at-plus-arg .before .before .before in
     c .plus2 .ensures .is ∙ ap (λ (x : Set). plus x (getD (s .args .t4) 3 noSet)) (c .before .before .plus .ensures .is ∙ ap (λ (x : Set). plus x (getD (s .args .t4) 2 noSet)) (s .pre .1 .is))
 
 fits : (c : tie.After-test-of) → TestFits (c .test-of .result)
@@ -77,22 +78,24 @@ is-exceeded-requires c κs = fits c
 
 returns-2 : tie.Need-returns-2
 returns-2 c =
-    let e = c .before .before .before .before .before .before .before in
+    let at-plus2 = c .before .before .before in
+    let e = at-plus2 .before .before .before .before in
     let s = e .before .before .args in
     let l = s .t4 in (
       tried-yes (testOf (s .limits .five) (plus (plus (plus (plus (s .set) (getD l 0 noSet)) (getD l 1 noSet)) (getD l 2 noSet)) (getD l 3 noSet))) Nothing
-          (c .before .before .test-of .ensures ∙ ap (testOf (s .limits .five)) (five-is (c .before .before .before))) (c .before .is-exceeded .ensures) (c .if2 .taken)
+          (c .before .before .test-of .ensures ∙ ap (testOf (s .limits .five)) (five-is at-plus2)) (c .before .is-exceeded .ensures) (c .if2 .taken)
           ∙ five-some (s .limits) (s .set) (getD l 0 noSet) (getD l 1 noSet) (getD l 2 noSet) (getD l 3 noSet) (e .before .on-one-side .ensures) (not-false _ (e .if1 .left)),
       fits (c .before .before),
     )
 
 returns-3 : tie.Need-returns-3
 returns-3 c =
-    let e = c .before .before .before .before .before .before .before in
+    let at-plus2 = c .before .before .before in
+    let e = at-plus2 .before .before .before .before in
     let s = e .before .before .args in
     let l = s .t4 in (
       tried-no (testOf (s .limits .five) (plus (plus (plus (plus (s .set) (getD l 0 noSet)) (getD l 1 noSet)) (getD l 2 noSet)) (getD l 3 noSet))) Nothing
-          (c .before .before .test-of .ensures ∙ ap (testOf (s .limits .five)) (five-is (c .before .before .before))) (c .before .is-exceeded .ensures) (c .if2 .left)
+          (c .before .before .test-of .ensures ∙ ap (testOf (s .limits .five)) (five-is at-plus2)) (c .before .is-exceeded .ensures) (c .if2 .left)
           ∙ five-some (s .limits) (s .set) (getD l 0 noSet) (getD l 1 noSet) (getD l 2 noSet) (getD l 3 noSet) (e .before .on-one-side .ensures) (not-false _ (e .if1 .left)),
       tt,
     )

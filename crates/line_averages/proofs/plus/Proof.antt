@@ -25,13 +25,14 @@ add-t6 c =
 
 returns : tie.Need-returns
 returns c =
-    let s = c .before .before .before .before .before .before in
+    let at-add = c .before .before .before in
+    let s = at-add .before .before .before in
     let v = s .pre .0 .within in
     let w = s .pre .1 .within in
     let a = back-in v tt tt in
     let b = back-in w tt tt in
-    let e = c .before .before .before .add .ensures in
-    let r : Within 1000000 1000000 (c .before .before .before .add .result .z) = omega arith in
+    let e = at-add .add .ensures in
+    let r : Within 1000000 1000000 (at-add .add .result .z) = omega arith in
     let d = back-in r tt tt in
     record {
       is = λ i. record { sum = (d .is ∙ e .is ∙ ap₂ _+ℤ_ (a .is) (b .is)) i; count = s .args .set .count + s .args .p .count };

@@ -15,6 +15,9 @@ use borrow.Author.Needs.{needs}
 use Rattle.line_averages.proofs.three_sets.Statement.{statement}
 use Rattle.line_averages.proofs.three_sets.Tie as tie
 
+full : (s : tie.Start) → length (s .args .t5) ≡ 4
+full s = search needs
+
 newest : (c : tie.Else1) → PastFits (getD (c .before .args .t5) 0 noSet)
 newest c = let two = c .if1 .left in c .before .pre .0 .held .each 0 (omega arith)
 
@@ -58,20 +61,21 @@ is-exceeded-requires c κs = fits c
 returns-2 : tie.Need-returns-2
 returns-2 c =
     let e = c .before .before .before .before .before in
-    let s = e .before .args in
-    let full : length (s .t5) ≡ 4 = search needs in (
-      three-first (s .limits) (s .set) (s .k) (s .t5) full (e .if1 .left) (c .before .before .test-of .ensures ∙ ap (testOf (s .limits .three)) (three (c .before .before .before) .is)) (c .before .is-exceeded .ensures) (c .if2 .taken),
+    let start = e .before in
+    let s = start .args in (
+      three-first (s .limits) (s .set) (s .k) (s .t5) (full start) (e .if1 .left) (c .before .before .test-of .ensures ∙ ap (testOf (s .limits .three)) (three (c .before .before .before) .is)) (c .before .is-exceeded .ensures) (c .if2 .taken),
       fits (c .before .before),
     )
 
 returns-3 : tie.Need-returns-3
 returns-3 c =
-    let e = c .before .before .before .before .before .before in
-    let s = e .before .args in
-    let full : length (s .t5) ≡ 4 = search needs in (
+    let at-plus = c .before .before .before .before in
+    let e = at-plus .before .before in
+    let start = e .before in
+    let s = start .args in (
       tried-no (testOf (s .limits .three) (plus (plus (s .set) (getD (s .t5) 0 noSet)) (getD (s .t5) 1 noSet))) Nothing
-          (c .before .before .before .test-of .ensures ∙ ap (testOf (s .limits .three)) (three (c .before .before .before .before) .is)) (c .before .before .is-exceeded .ensures) (c .before .if2 .left)
-          ∙ three-some (s .limits) (s .set) (s .k) (s .t5) full (e .if1 .left) (c .if3 .taken),
+          (c .before .before .before .test-of .ensures ∙ ap (testOf (s .limits .three)) (three at-plus .is)) (c .before .before .is-exceeded .ensures) (c .before .if2 .left)
+          ∙ three-some (s .limits) (s .set) (s .k) (s .t5) (full start) (e .if1 .left) (c .if3 .taken),
       tt,
     )
 
@@ -83,14 +87,15 @@ five-sets-requires c κs =
 
 returns-4 : tie.Need-returns-4
 returns-4 c =
-    let e = c .before .before .before .before .before .before .before in
-    let s = e .before .args in
-    let full : length (s .t5) ≡ 4 = search needs in (
+    let at-plus = c .before .before .before .before .before in
+    let e = at-plus .before .before in
+    let start = e .before in
+    let s = start .args in (
       c .five-sets .ensures .0
           ∙ tried-no (testOf (s .limits .three) (plus (plus (s .set) (getD (s .t5) 0 noSet)) (getD (s .t5) 1 noSet)))
           (foundOf (firstExceeded (fiveTest (s .limits) (s .set) (getD (s .t5) 0 noSet) (getD (s .t5) 1 noSet) (getD (s .t5) 2 noSet) (getD (s .t5) 3 noSet))))
-          (c .before .before .before .before .test-of .ensures ∙ ap (testOf (s .limits .three)) (three (c .before .before .before .before .before) .is)) (c .before .before .before .is-exceeded .ensures) (c .before .before .if2 .left)
-          ∙ three-four (s .limits) (s .set) (s .k) (s .t5) full (c .before .if3 .left),
+          (c .before .before .before .before .test-of .ensures ∙ ap (testOf (s .limits .three)) (three at-plus .is)) (c .before .before .before .is-exceeded .ensures) (c .before .before .if2 .left)
+          ∙ three-four (s .limits) (s .set) (s .k) (s .t5) (full start) (c .before .if3 .left),
       c .five-sets .ensures .1,
     )
 

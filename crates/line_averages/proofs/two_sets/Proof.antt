@@ -13,6 +13,9 @@ use borrow.Author.Needs.{needs}
 use Rattle.line_averages.proofs.two_sets.Statement.{statement}
 use Rattle.line_averages.proofs.two_sets.Tie as tie
 
+full : (s : tie.Start) → length (s .args .t4) ≡ 4
+full s = search needs
+
 newest : (c : tie.Else1) → PastFits (getD (c .before .args .t4) 0 noSet)
 newest c = let some = c .if1 .left in c .before .pre .held .each 0 (omega arith)
 
@@ -43,25 +46,29 @@ is-exceeded-requires c κs = fits c
 
 returns-2 : tie.Need-returns-2
 returns-2 c =
-    let s = c .before .before .before .before .before .before .args in
-    let full : length (s .t4) ≡ 4 = search needs in (
+    let at-if1 = c .before .before .before .before .before in
+    let start = at-if1 .before in
+    let s = start .args in (
       tried-yes (testOf (s .limits .two) (plus (s .set) (getD (s .t4) 0 noSet))) (fromThree (s .limits) (s .set) (take (s .k) (s .t4)))
           (c .before .before .test-of .ensures ∙ ap (testOf (s .limits .two)) (c .before .before .before .plus .ensures .is)) (c .before .is-exceeded .ensures) (c .if2 .taken)
-          ∙ two-some (s .limits) (s .set) (s .k) (s .t4) full (c .before .before .before .before .before .if1 .left),
+          ∙ two-some (s .limits) (s .set) (s .k) (s .t4) (full start) (at-if1 .if1 .left),
       fits (c .before .before),
     )
 
 three-sets-requires : tie.Need-three-sets-requires
-three-sets-requires c κs = (c .before .before .before .before .before .before .pre, c .before .before .before .plus .ensures)
+three-sets-requires c κs =
+    let at-plus = c .before .before .before in
+    (at-plus .before .before .before .pre, at-plus .plus .ensures)
 
 returns-3 : tie.Need-returns-3
 returns-3 c =
-    let s = c .before .before .before .before .before .before .before .args in
-    let full : length (s .t4) ≡ 4 = search needs in (
+    let at-plus = c .before .before .before .before in
+    let start = at-plus .before .before .before in
+    let s = start .args in (
       c .three-sets .ensures .0
           ∙ tried-no (testOf (s .limits .two) (plus (s .set) (getD (s .t4) 0 noSet))) (fromThree (s .limits) (s .set) (take (s .k) (s .t4)))
-          (c .before .before .before .test-of .ensures ∙ ap (testOf (s .limits .two)) (c .before .before .before .before .plus .ensures .is)) (c .before .before .is-exceeded .ensures) (c .before .if2 .left)
-          ∙ two-some (s .limits) (s .set) (s .k) (s .t4) full (c .before .before .before .before .before .before .if1 .left),
+          (c .before .before .before .test-of .ensures ∙ ap (testOf (s .limits .two)) (at-plus .plus .ensures .is)) (c .before .before .is-exceeded .ensures) (c .before .if2 .left)
+          ∙ two-some (s .limits) (s .set) (s .k) (s .t4) (full start) (at-plus .before .before .if1 .left),
       c .three-sets .ensures .1,
     )
 

@@ -5,14 +5,14 @@ use lib.ListN.{length, take}
 use borrow.Author.Needs.{needs}
 use Rattle.whole.proofs.Fold.{Going, going-start}
 use Rattle.station_rules.specs.Held.{noSet}
-use Rattle.line_past.specs.Valid.{oneMore}
+use Rattle.line_past.specs.Valid.{countIfValid}
 use Rattle.line_past.proofs.Arrays.{first-step, first-done}
 use Rattle.line_past.proofs.ValidLaws.{count-fold}
 use Rattle.line_past.proofs.valid_count.Statement.{statement}
 use Rattle.line_past.proofs.valid_count.Tie as tie
 
 abbrev Inv-loop : tie.InvT-loop
-Inv-loop day held past k₀ i₀ k i = (i ≤ held) × (k ≤ i) × Going (oneMore day) 0 (take held past) i k
+Inv-loop day held past k₀ i₀ k i = (i ≤ held) × (k ≤ i) × Going (countIfValid day) 0 (take held past) i k
 
 abbrev μ-loop : tie.MeasureT-loop
 μ-loop day held past k₀ i₀ k i = held - i
@@ -20,14 +20,14 @@ abbrev μ-loop : tie.MeasureT-loop
 loop-holds : tie.Need-loop-holds Inv-loop μ-loop
 loop-holds c = (omega arith, omega arith, going-start _ _ _)
 
-mul-one-more : tie.Need-mul-one-more Inv-loop μ-loop
-mul-one-more c = search needs
+mul-count-if-valid : tie.Need-mul-count-if-valid Inv-loop μ-loop
+mul-count-if-valid c = search needs
 
-array-copy-out-one-more : tie.Need-array-copy-out-one-more Inv-loop μ-loop
-array-copy-out-one-more c = search needs
+array-copy-out-count-if-valid : tie.Need-array-copy-out-count-if-valid Inv-loop μ-loop
+array-copy-out-count-if-valid c = search needs
 
-one-more-requires : tie.Need-one-more-requires Inv-loop μ-loop
-one-more-requires c κs =
+count-if-valid-requires : tie.Need-count-if-valid-requires Inv-loop μ-loop
+count-if-valid-requires c κs =
     let s = c .before .before .before in
     let l = c .before .before .loop in
     (s .pre .1 .each (l .i) (c .before .loop-test .taken) .day, omega arith)
@@ -46,14 +46,14 @@ loop-again c =
     let full : length (s .args .t3) ≡ 4 = search needs in (
       omega arith,
       omega arith,
-      first-step (s .args .held) (s .args .t3) (oneMore (s .args .day)) 0 (l .i) (l .k) (l .inv .2) 4 full (s .pre .0) noSet (c .one-more .result) t (c .one-more .ensures .0),
+      first-step (s .args .held) (s .args .t3) (countIfValid (s .args .day)) 0 (l .i) (l .k) (l .inv .2) 4 full (s .pre .0) noSet (c .count-if-valid .result) t (c .count-if-valid .ensures .0),
     )
 
 returns : tie.Need-returns Inv-loop μ-loop
 returns c =
     let s = c .before .before in
     let l = c .before .loop in
-    (first-done (s .args .held) (s .args .t3) (oneMore (s .args .day)) 0 (l .i) (l .k) (l .inv .2) (c .loop-test .left) ∙ count-fold (s .args .day) (take (s .args .held) (s .args .t3)), omega arith)
+    (first-done (s .args .held) (s .args .t3) (countIfValid (s .args .day)) 0 (l .i) (l .k) (l .inv .2) (c .loop-test .left) ∙ count-fold (s .args .day) (take (s .args .held) (s .args .t3)), omega arith)
 
 pub valid-count-spec : {M : Type 1} → statement M
 valid-count-spec =
@@ -62,9 +62,9 @@ valid-count-spec =
     Inv-loop
     μ-loop
     loop-holds
-    mul-one-more
-    array-copy-out-one-more
-    one-more-requires
+    mul-count-if-valid
+    array-copy-out-count-if-valid
+    count-if-valid-requires
     add-i
     loop-less
     loop-again

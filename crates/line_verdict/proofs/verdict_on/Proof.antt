@@ -9,7 +9,7 @@ use Rattle.line_averages.specs.Ranges.{TestFits, FoundFits}
 use Rattle.line_rounding.specs.Average.{averageOf}
 use Rattle.line_past.proofs.RangeLaws.{held-less}
 use Rattle.line_rounding.proofs.RoundLaws.{average-is}
-use Rattle.line_verdict.proofs.VerdictLaws.{verdict-shut, verdict-by, some-of}
+use Rattle.line_verdict.proofs.VerdictLaws.{shut-small, verdict-shut, verdict-by, some-of}
 use borrow.Author.Needs.{needs}
 use Rattle.line_verdict.proofs.verdict_on.Statement.{statement}
 use Rattle.line_verdict.proofs.verdict_on.Tie as tie
@@ -20,10 +20,14 @@ found c = c .before .t .given .0 .0
 fits : (c : tie.After-known-told) → TestFits (found c)
 fits c = subst FoundFits (c .before .t .given .1) (c .before .before .before .first-exceeded .ensures .1)
 
+shut-requires : tie.Need-shut-requires
+shut-requires c κs = search needs
+
 returns : tie.Need-returns
 returns c =
-    let s = c .before .before .args in
-    (verdict-shut (s .limits) (s .l) (s .day) (s .set) (c .if1 .taken), omega arith)
+    let s = c .before .before .before .args in
+    let e = c .shut .ensures in
+    (e ∙ verdict-shut (s .limits) (s .l) (s .day) (s .set) (c .before .if1 .taken), shut-small e)
 
 cast-valid-count : tie.Need-cast-valid-count
 cast-valid-count c = search needs
@@ -55,7 +59,10 @@ rounded-requires c κs =
 
 adjust-requires : tie.Need-adjust-requires
 adjust-requires c κs =
-    let w = c .before .before .before .before .before .before .before .before .before .before .before .before .pre .1 .0 .small in
+    let at-known-told = c .before .before .before in
+    let v = at-known-told .before .before .before .before in
+    let s = v .before .before .before .before .before in
+    let w = s .pre .1 .0 .small in
     (subst (Within 1000 1000) (sym (back-in w tt tt .is)) w, c .rounded .ensures .1)
 
 enum-told : tie.Need-enum-told
@@ -87,6 +94,7 @@ pub verdict-on-spec : {M : Type 1} → statement M
 verdict-on-spec =
     tie.close
     (tie.spec
+    shut-requires
     returns
     cast-valid-count
     valid-count-requires

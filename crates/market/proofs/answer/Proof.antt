@@ -35,45 +35,37 @@ bad-is c = let s = c .before .before .before .before in c .is-bad-day .ensures �
 good : (c : tie.Else2) → let s = c .before .before .before .before .before in dayCheck (station s .day) (s .args .day) .applies ≡ false
 good c = sym (bad-is (c .before)) ∙ c .if2 .left
 
-lines-are : (c : tie.After-line-count) → let s = c .before .before .before .before .before .before .before in c .line-count .result ≡ lineCount (station s .row)
+lines-are : (c : tie.After-line-count) → let e = c .before .before in let s = e .before .before .before .before .before in c .line-count .result ≡ lineCount (station s .row)
 lines-are c = c .line-count .ensures ∙ ap lineCount (c .before .row-of .ensures)
 
-here : (c : tie.Else3) → let s = c .before .before .before .before .before .before .before .before in s .args .line < lineCount (station s .row)
+here : (c : tie.Else3) → let e = c .before .before .before in let s = e .before .before .before .before .before in s .args .line < lineCount (station s .row)
 here c = let few = c .if3 .left in let lines = lines-are (c .before) in omega arith
 
--- src/lib.rt:64:9
 is-sound-requires : tie.Need-is-sound-requires
 is-sound-requires c κs = search needs
 
--- src/lib.rt:65:9
 returns : tie.Need-returns
 returns c =
     let s = c .before .before in
     answer-unsound (station s) (s .args .day) (s .args .line) (s .args .scan) (s .args .basis) (sym (c .before .is-sound .ensures) ∙ not-true _ (c .if1 .taken))
 
--- src/lib.rt:67:30
 day-of-requires : tie.Need-day-of-requires
 day-of-requires c κs = full c
 
--- src/lib.rt:67:8
 is-bad-day-requires : tie.Need-is-bad-day-requires
 is-bad-day-requires c κs = search needs
 
--- src/lib.rt:68:9
 returns-2 : tie.Need-returns-2
 returns-2 c =
     let s = c .before .before .before .before .before in
     answer-day (station s) (s .args .day) (s .args .line) (s .args .scan) (s .args .basis) (right (c .before .before .before)) (sym (bad-is (c .before)) ∙ c .if2 .taken)
 
--- src/lib.rt:70:9
 row-of-requires : tie.Need-row-of-requires
 row-of-requires c κs = full (c .before .before .before)
 
--- src/lib.rt:71:8
 line-count-requires : tie.Need-line-count-requires
 line-count-requires c κs = search needs
 
--- src/lib.rt:72:9
 returns-3 : tie.Need-returns-3
 returns-3 c =
     let e = c .before .before .before in
@@ -82,15 +74,14 @@ returns-3 c =
     let lines = lines-are (c .before) in
     answer-line (station s) (s .args .day) (s .args .line) (s .args .scan) (s .args .basis) (right (e .before .before .before)) (good e) (omega arith)
 
--- src/lib.rt:74:9
 line-of-requires : tie.Need-line-of-requires
 line-of-requires c κs =
     let h = here c in
-    let e = c .before .before .before .before .before .before in
+    let at-if2 = c .before .before .before in
+    let e = at-if2 .before .before .before in
     let most = row-facts (station (e .before .before) .row) .threeLines in
     (full e, omega arith)
 
--- src/lib.rt:75:5
 judge-scan-requires : tie.Need-judge-scan-requires
 judge-scan-requires c κs =
     let f = c .before in
@@ -98,7 +89,6 @@ judge-scan-requires c κs =
     let s = e .before .before .before .before .before in
     subst⁻¹ LineFits (c .line-of .ensures) (line-fits (station s) (s .args .line) (right (e .before .before .before)) (here f))
 
--- src/lib.rt:61:1
 returns-4 : tie.Need-returns-4
 returns-4 c =
     let f = c .before .before in

@@ -20,9 +20,10 @@ basis-is c = c .basis-value .ensures ∙ ap (λ (a : ℕ). basisOf a (c .before 
 basis-in : (c : tie.Else1) → within 0 5000 (c .before .before .basis-value .result .z) ≡ true
 basis-in c = sym (c .before .up-to .ensures) ∙ not-false _ (c .if1 .left)
 
-value-is : (c : tie.After-add) → c .add .result .z ≡ pos (c .before .before .before .before .before .before .before .args .n) +ℤ c .before .before .before .before .before .before .before .args .l .intercept
+value-is : (c : tie.After-add) → let at-up-to = c .before .before .before .before in let s = at-up-to .before .before .before in c .add .result .z ≡ pos (s .args .n) +ℤ s .args .l .intercept
 value-is c =
-    let s = c .before .before .before .before .before .before .before in
+    let at-up-to = c .before .before .before .before in
+    let s = at-up-to .before .before .before in
     c .add .ensures .is ∙ ap₂ _+ℤ_ (c .before .before .of-u32 .ensures .is) (back-in (s .pre .1 .small) tt tt .is)
 
 below : (c : tie.After-standard-basis) → c .standard-basis .result < 10000
@@ -50,7 +51,8 @@ of-u32-requires c κs = let n = c .before .before .before .before .pre .0 in ome
 
 add-requires : tie.Need-add-requires
 add-requires c κs =
-    let s = c .before .before .before .before .before .before in
+    let at-up-to = c .before .before .before in
+    let s = at-up-to .before .before .before in
     let w = s .pre .1 .small in
     let b = back-in w tt tt in
     let n = s .pre .0 in

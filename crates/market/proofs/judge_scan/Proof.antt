@@ -26,8 +26,9 @@ enum-known-n c = search needs
 
 judge-reading-requires : tie.Need-judge-reading-requires
 judge-reading-requires c κs =
-    let s = c .before .before .before .before .before .before .before .before in
-    (answer-le _ _ (sym (c .before .before .before .reading .ensures) ∙ c .before .n .given .1), s .pre)
+    let at-reading = c .before .before .before in
+    let s = at-reading .before .before .before .before .before in
+    (answer-le _ _ (sym (at-reading .reading .ensures) ∙ c .before .n .given .1), s .pre)
 
 returns : tie.Need-returns
 returns c =
@@ -42,10 +43,11 @@ returns-2 c =
 
 returns-3 : tie.Need-returns-3
 returns-3 c =
-    let p = c .before .before .before .before .before .before in
+    let at-reading = c .before .before .before .before in
+    let p = at-reading .before .before in
     let s = p .before .before .before .args in
     c .judge-reading .ensures
-    ∙ float-read (s .row) (lineValues (s .l)) (s .day) (s .line) (s .scan) (s .basis) _ _ (sym (p .before .before .pick .ensures) ∙ p .x .given .1) (sym (c .before .before .before .before .reading .ensures) ∙ c .before .before .n .given .1)
+    ∙ float-read (s .row) (lineValues (s .l)) (s .day) (s .line) (s .scan) (s .basis) _ _ (sym (p .before .before .pick .ensures) ∙ p .x .given .1) (sym (at-reading .reading .ensures) ∙ c .before .before .n .given .1)
 
 pub judge-scan-spec : {M : Type 1} → statement M
 judge-scan-spec =

@@ -7,15 +7,12 @@ use borrow.Author.Needs.{needs}
 use Rattle.market.proofs.market.Statement.{statement}
 use Rattle.market.proofs.market.Tie as tie
 
--- src/lib.rt:88:9
 answer-requires : tie.Need-answer-requires
 answer-requires c κs = search needs
 
--- src/lib.rt:90:33
 enum-known-given : tie.Need-enum-known-given
 enum-known-given c = search needs
 
--- src/lib.rt:91:13
 put-day-requires : tie.Need-put-day-requires
 put-day-requires c κs =
     let k = c .before .before in
@@ -24,15 +21,12 @@ put-day-requires c κs =
     let o = in-order (stationIn (s .state .now)) (s .day) (s .line) (s .scan) (s .basis) _ (sym (k .given .given .1) ∙ a .answer .ensures) in
     (all-places (s .state .now) (o .0), o .1)
 
--- src/lib.rt:94:31
 enum-known-given-2 : tie.Need-enum-known-given-2
 enum-known-given-2 c = search needs
 
--- src/lib.rt:79:1
 same-length : tie.Need-same-length
 same-length c = search needs
 
--- src/lib.rt:79:1
 returns : tie.Need-returns
 returns c =
     let k = c .before .before .before .before in
@@ -41,11 +35,9 @@ returns c =
     (λ i. record { answer = Certified (k .given .given .0 .0); places = c .before .put-day .ensures i })
     ∙ left-by (s .state .now) (s .day) (s .line) (s .scan) (s .basis) (Certified (k .given .given .0 .0)) (sym (k .given .given .1) ∙ a .answer .ensures)
 
--- src/lib.rt:79:1
 same-length-2 : tie.Need-same-length-2
 same-length-2 c = search needs
 
--- src/lib.rt:79:1
 returns-2 : tie.Need-returns-2
 returns-2 c =
     let k = c .before in

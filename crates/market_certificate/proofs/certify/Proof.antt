@@ -21,15 +21,16 @@ open-in c = sym (c .before .is-open .ensures) ∙ not-false _ (c .if1 .left)
 recent-in : (c : tie.Else2) → c .before .before .before .before .before .args .day ≤ newestDay (lineValues (c .before .before .before .before .before .args .l) .past) + 7
 recent-in c = let day = c .before .newest-day .ensures .0 in let left = c .if2 .left in omega arith
 
-value-is : (c : tie.After-to-u322) → c .to-u322 .result ≡ natAbs (c .before .before .before .before .before .before .before .args .h .z)
+value-is : (c : tie.After-to-u322) → let e2 = c .before .before in let s = e2 .before .before .before .before .before in c .to-u322 .result ≡ natAbs (s .args .h .z)
 value-is c = sym (ap natAbs (c .to-u322 .ensures .is))
 
-basis-is : (c : tie.After-to-u32) → c .to-u32 .result ≡ natAbs (c .before .before .before .before .before .before .args .b .z)
+basis-is : (c : tie.After-to-u32) → let e2 = c .before in let s = e2 .before .before .before .before .before in c .to-u32 .result ≡ natAbs (s .args .b .z)
 basis-is c = sym (ap natAbs (c .to-u32 .ensures .is))
 
-too-high-is : (c : tie.After-is-too-high) → c .is-too-high .result
-    ≡ tooHigh (c .before .before .before .before .before .before .before .before .args .a) (natAbs (c .before .before .before .before .before .before .before .before .args .b .z)) (natAbs (c .before .before .before .before .before .before .before .before .args .h .z))
-too-high-is c = c .is-too-high .ensures ∙ ap₂ (tooHigh (c .before .before .before .before .before .before .before .before .args .a)) (basis-is (c .before .before)) (value-is (c .before))
+too-high-is : (c : tie.After-is-too-high) → let e2 = c .before .before .before in let s = e2 .before .before .before .before .before in c .is-too-high .result ≡ tooHigh (s .args .a) (natAbs (s .args .b .z)) (natAbs (s .args .h .z))
+too-high-is c =
+    let e2 = c .before .before .before in
+    c .is-too-high .ensures ∙ ap₂ (tooHigh (e2 .before .before .before .before .before .args .a)) (basis-is (c .before .before)) (value-is (c .before))
 
 is-open-requires : tie.Need-is-open-requires
 is-open-requires c κs = tt
@@ -61,13 +62,15 @@ to-u32-requires c κs =
 
 to-u32-requires-2 : tie.Need-to-u32-requires-2
 to-u32-requires-2 c κs =
-    let s = c .before .before .before .before .before .before in
+    let at-past = c .before .before .before in
+    let s = at-past .before .before .before in
     let w = in-range 10000 (s .args .h .z) (s .pre .1 .1) in
     omega arith
 
 is-too-high-requires : tie.Need-is-too-high-requires
 is-too-high-requires c κs =
-    let s = c .before .before .before .before .before .before .before in
+    let at-past = c .before .before .before .before in
+    let s = at-past .before .before .before in
     let v = in-range 5000 (s .args .b .z) (s .pre .1 .0) in
     let w = in-range 10000 (s .args .h .z) (s .pre .1 .1) in
     let m = c .before .to-u32 .ensures in
@@ -83,14 +86,16 @@ returns-3 c =
 
 in-tenths-requires : tie.Need-in-tenths-requires
 in-tenths-requires c κs =
-    let s = c .before .before .before .before .before .before .before .before .before in
+    let at-newest-day = c .before .before .before .before .before in
+    let s = at-newest-day .before .before .before .before in
     let w = in-range 10000 (s .args .h .z) (s .pre .1 .1) in
     let n = c .before .before .to-u322 .ensures in
     omega arith
 
 in-tenths-at-requires : tie.Need-in-tenths-at-requires
 in-tenths-at-requires c κs =
-    let s = c .before .before .before .before .before .before .before .before .before .before in
+    let at-if2 = c .before .before .before .before .before in
+    let s = at-if2 .before .before .before .before .before in
     let v = in-range 5000 (s .args .b .z) (s .pre .1 .0) in
     let w = in-range 10000 (s .args .h .z) (s .pre .1 .1) in
     let m = c .before .before .before .before .to-u32 .ensures in

@@ -45,7 +45,9 @@ again-round-requires : tie.Need-again-round-requires
 again-round-requires c κs = (c .before .before .before .before .before .pre .0, right (c .before .before))
 
 any-wrong-again-requires : tie.Need-any-wrong-again-requires
-any-wrong-again-requires c κs = (c .before .before .before .before .before .before .pre .0, right (c .before .before .before))
+any-wrong-again-requires c κs =
+    let at-if2 = c .before .before .before in
+    (at-if2 .before .before .before .pre .0, right at-if2)
 
 returns-4 : tie.Need-returns-4
 returns-4 c =
@@ -56,7 +58,9 @@ returns-4 c =
     (c .before .before .again-round .result) (c .before .before .again-round .ensures) (sym (c .before .any-wrong-again .ensures) ∙ c .if4 .taken)
 
 counted-requires : tie.Need-counted-requires
-counted-requires c κs = (c .before .before .before .before .before .before .before .before .pre .0, right (c .before .before .before .before .before))
+counted-requires c κs =
+    let at-if2 = c .before .before .before .before .before in
+    (at-if2 .before .before .before .pre .0, right at-if2)
 
 returns-5 : tie.Need-returns-5
 returns-5 c =

@@ -1,16 +1,13 @@
-use mathlib.Core.Path.{_∙_}
-use mathlib.Core.Bool.{Bool, false}
-use Prim.Native.Nat.{_-_, _≤_}
+use Prim.Native.Nat.{_-_}
 use native.Mathlib.Omega.{arith}
-use Rattle.whole.proofs.Fold.{Going, going-start}
-use Rattle.whole.proofs.ListLaws.{orElse, or-step, any-fold}
-use Rattle.station_rules.specs.Sheets.{Sample, samplesOf, wrongAgain}
-use Rattle.sheet_numbers.proofs.SheetLaws.{pass-step, pass-done, sample-measured}
+use Rattle.whole.proofs.Fold.{going-start}
+use Rattle.station_rules.specs.Sheets.{wrongAgain}
+use Rattle.sheet_numbers.proofs.SheetLaws.{Looking, look-next, look-done, sample-measured}
 use Rattle.sheet_checks.proofs.any_wrong_again.Statement.{statement}
 use Rattle.sheet_checks.proofs.any_wrong_again.Tie as tie
 
 abbrev Inv-loop : tie.InvT-loop
-Inv-loop limits intercept round numbers samples found₀ i₀ found i = (i ≤ samples) × Going (orElse (wrongAgain limits (intercept .z) round)) false (samplesOf numbers) i found
+Inv-loop limits intercept round numbers samples found₀ i₀ found i = Looking samples numbers (wrongAgain limits (intercept .z) round) i found
 
 abbrev μ-loop : tie.MeasureT-loop
 μ-loop limits intercept round numbers samples found₀ i₀ found i = samples - i
@@ -35,21 +32,16 @@ loop-less c = let t = c .before .before .before .loop-test .taken in omega arith
 
 loop-again : tie.Need-loop-again Inv-loop μ-loop
 loop-again c =
-    let s = c .before .before .before .before .before in
-    let l = c .before .before .before .before .loop in
-    let t = c .before .before .before .loop-test .taken in
-    let p : Sample → Bool = wrongAgain (s .args .limits) (s .args .intercept .z) (s .args .round) in (
-      omega arith,
-      pass-step (s .args .samples) (s .args .numbers .now) (s .pre .1 .size) (orElse p) false (l .i) (l .found) (l .inv .1) (c .either .result) t
-          (or-step p (l .found) (c .either .ensures) (c .before .wrong-again .ensures) (c .before .before .sample-at .ensures)),
-    )
+    let at = c .before .before .before in
+    let l = at .before .loop in
+    let s = at .before .before in
+    look-next (s .args .samples) (s .args .numbers .now) (s .pre .1 .size) (wrongAgain (s .args .limits) (s .args .intercept .z) (s .args .round)) (l .i) (l .found) (l .inv) (at .loop-test .taken) (c .either .ensures) (c .before .wrong-again .ensures) (c .before .before .sample-at .ensures)
 
 returns : tie.Need-returns Inv-loop μ-loop
 returns c =
     let s = c .before .before in
     let l = c .before .loop in
-    let p : Sample → Bool = wrongAgain (s .args .limits) (s .args .intercept .z) (s .args .round) in
-    pass-done (s .args .samples) (s .args .numbers .now) (s .pre .1 .size) (orElse p) false (l .i) (l .found) (l .inv .1) (c .loop-test .left) ∙ any-fold p (samplesOf (s .args .numbers .now))
+    look-done (s .args .samples) (s .args .numbers .now) (s .pre .1 .size) (wrongAgain (s .args .limits) (s .args .intercept .z) (s .args .round)) (l .i) (l .found) (l .inv) (c .loop-test .left)
 
 pub any-wrong-again-spec : {M : Type 1} → statement M
 any-wrong-again-spec =

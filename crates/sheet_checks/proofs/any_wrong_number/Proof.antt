@@ -1,16 +1,13 @@
-use mathlib.Core.Path.{_∙_}
-use mathlib.Core.Bool.{Bool, false}
-use Prim.Native.Nat.{_-_, _≤_}
+use Prim.Native.Nat.{_-_}
 use native.Mathlib.Omega.{arith}
-use Rattle.whole.proofs.Fold.{Going, going-start}
-use Rattle.whole.proofs.ListLaws.{orElse, or-step, any-fold}
-use Rattle.station_rules.specs.Sheets.{Sample, samplesOf, wrongNumber}
-use Rattle.sheet_numbers.proofs.SheetLaws.{pass-step, pass-done}
+use Rattle.whole.proofs.Fold.{going-start}
+use Rattle.station_rules.specs.Sheets.{wrongNumber}
+use Rattle.sheet_numbers.proofs.SheetLaws.{Looking, look-next, look-done}
 use Rattle.sheet_checks.proofs.any_wrong_number.Statement.{statement}
 use Rattle.sheet_checks.proofs.any_wrong_number.Tie as tie
 
 abbrev Inv-loop : tie.InvT-loop
-Inv-loop numbers samples found₀ i₀ found i = (i ≤ samples) × Going (orElse wrongNumber) false (samplesOf numbers) i found
+Inv-loop numbers samples found₀ i₀ found i = Looking samples numbers wrongNumber i found
 
 abbrev μ-loop : tie.MeasureT-loop
 μ-loop numbers samples found₀ i₀ found i = samples - i
@@ -35,21 +32,16 @@ loop-less c = let t = c .before .before .before .loop-test .taken in omega arith
 
 loop-again : tie.Need-loop-again Inv-loop μ-loop
 loop-again c =
-    let s = c .before .before .before .before .before in
-    let l = c .before .before .before .before .loop in
-    let t = c .before .before .before .loop-test .taken in
-    let p : Sample → Bool = wrongNumber in (
-      omega arith,
-      pass-step (s .args .samples) (s .args .numbers .now) (s .pre .0) (orElse p) false (l .i) (l .found) (l .inv .1) (c .either .result) t
-          (or-step p (l .found) (c .either .ensures) (c .before .wrong-number .ensures) (c .before .before .sample-at .ensures)),
-    )
+    let at = c .before .before .before in
+    let l = at .before .loop in
+    let s = at .before .before in
+    look-next (s .args .samples) (s .args .numbers .now) (s .pre .0) wrongNumber (l .i) (l .found) (l .inv) (at .loop-test .taken) (c .either .ensures) (c .before .wrong-number .ensures) (c .before .before .sample-at .ensures)
 
 returns : tie.Need-returns Inv-loop μ-loop
 returns c =
     let s = c .before .before in
     let l = c .before .loop in
-    let p : Sample → Bool = wrongNumber in
-    pass-done (s .args .samples) (s .args .numbers .now) (s .pre .0) (orElse p) false (l .i) (l .found) (l .inv .1) (c .loop-test .left) ∙ any-fold p (samplesOf (s .args .numbers .now))
+    look-done (s .args .samples) (s .args .numbers .now) (s .pre .0) wrongNumber (l .i) (l .found) (l .inv) (c .loop-test .left)
 
 pub any-wrong-number-spec : {M : Type 1} → statement M
 any-wrong-number-spec =

@@ -21,7 +21,8 @@ array-copy-out-closer-3 c = search needs
 
 closer-requires-2 : tie.Need-closer-requires-2
 closer-requires-2 c κs =
-    let m = c .before .before .before .before .before .before .before .pre in
+    let at-struct-told3 = c .before .before .before .before in
+    let m = at-struct-told3 .before .before .before .pre in
     let x = back-in (m .first) tt tt in
     let y = back-in (m .second) tt tt in
     let z = back-in (m .third) tt tt in
@@ -30,7 +31,8 @@ closer-requires-2 c κs =
 returns : tie.Need-returns
 unfolding closestPair
 returns c =
-    let m = c .before .before .before .before .before .before .before .before .pre in
+    let at-closer-arg = c .before .before .before .before in
+    let m = at-closer-arg .before .before .before .before .pre in
     (c .closer2 .ensures .0 ∙ ap₂ closer (c .before .before .closer .ensures .0 ∙ ap₂ closer (read-pair (m .first) (m .second)) (read-pair (m .first) (m .third))) (read-pair (m .second) (m .third)), c .closer2 .ensures .1)
 
 pub closest-pair-spec : {M : Type 1} → statement M

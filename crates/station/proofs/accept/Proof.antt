@@ -42,11 +42,12 @@ limits-are c =
     let s = c .before .before .before .before .before in
     c .limits-of .ensures ∙ ap (λ (row : ℕ). limitsOf row (s .args .line)) (c .before .row-of .ensures)
 
-verdict : (c : tie.After-verdict-on) → let s = c .before .before .before .before .before .before in
+verdict : (c : tie.After-verdict-on) → let at-line-of = c .before .before .before .before in let s = at-line-of .before .before in
     c .verdict-on .result ≡ verdictOf (limitsOf (station s .row) (s .args .line)) (valuesOf (station s) (s .args .line)) (s .args .day) (s .args .set)
 verdict c =
-    let s = c .before .before .before .before .before .before in
-    c .verdict-on .ensures .0 ∙ (λ i. verdictOf (limits-are (c .before) i) (lineValues (c .before .before .before .before .line-of .ensures i)) (s .args .day) (s .args .set))
+    let at-line-of = c .before .before .before .before in
+    let s = at-line-of .before .before in
+    c .verdict-on .ensures .0 ∙ (λ i. verdictOf (limits-are (c .before) i) (lineValues (at-line-of .line-of .ensures i)) (s .args .day) (s .args .set))
 
 set-fits : (s : tie.Start) → SetFits (record { day = s .args .day; sum = rd (s .args .set .sum); count = s .args .set .count })
 set-fits s =
@@ -58,7 +59,8 @@ set-fits s =
 entered-47 : (c : tie.After-enter-sheet) → length (c .enter-sheet .last .0) ≡ 47
 entered-47 c =
     let v = c .before .before .before in
-    let s = v .before .before .before .before .before .before in
+    let at-line-of = v .before .before .before .before in
+    let s = at-line-of .before .before in
     let w = s .args .state .now in
     let part = linePlaces w (s .args .line) in
     ap length (c .enter-sheet .ensures)
@@ -81,11 +83,15 @@ verdict-on-requires c κs =
 enter-sheet-requires : tie.Need-enter-sheet-requires
 enter-sheet-requires c κs =
     let v = c .before .before in
-    let s = v .before .before .before .before .before .before in
+    let at-line-of = v .before .before .before .before in
+    let s = at-line-of .before .before in
     ((full s, three s), ((held s .room, set-fits s), (held s .small, v .verdict-on .ensures .1)))
 
 put-day-requires : tie.Need-put-day-requires
-put-day-requires c κs = (entered-47 (c .before .before), c .before .before .before .before .before .before .before .before .before .before .before .pre .today)
+put-day-requires c κs =
+    let at-verdict-on = c .before .before .before .before .before in
+    let at-line-of = at-verdict-on .before .before .before .before in
+    (entered-47 (c .before .before), at-line-of .before .before .pre .today)
 
 phase-after-requires : tie.Need-phase-after-requires
 phase-after-requires c κs = search needs
@@ -99,7 +105,8 @@ returns c =
     let d = c .before .before .before .before in
     let n = d .before .before .before in
     let v = n .before .before .before in
-    let s = v .before .before .before .before .before .before in
+    let at-line-of = v .before .before .before .before in
+    let s = at-line-of .before .before in
     let w = s .args .state .now in
     let line = s .args .line in
     let e = verdict v in

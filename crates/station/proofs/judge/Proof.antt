@@ -37,10 +37,10 @@ bad-is c = let s = c .before .before .before .before in c .is-bad-day .ensures �
 good : (c : tie.Else2) → let s = c .before .before .before .before .before in dayCheck (station s .day) (s .args .day) .applies ≡ false
 good c = sym (bad-is (c .before)) ∙ c .if2 .left
 
-lines-are : (c : tie.After-line-count) → let s = c .before .before .before .before .before .before .before in c .line-count .result ≡ lineCount (station s .row)
+lines-are : (c : tie.After-line-count) → let e = c .before .before in let s = e .before .before .before .before .before in c .line-count .result ≡ lineCount (station s .row)
 lines-are c = c .line-count .ensures ∙ ap lineCount (c .before .row-of .ensures)
 
-here : (c : tie.Else3) → let s = c .before .before .before .before .before .before .before .before in s .args .line < lineCount (station s .row)
+here : (c : tie.Else3) → let e = c .before .before .before in let s = e .before .before .before .before .before in s .args .line < lineCount (station s .row)
 here c = let few = c .if3 .left in let lines = lines-are (c .before) in omega arith
 
 fits : (c : tie.After-line-of) → LineFits (c .line-of .result)
@@ -50,9 +50,10 @@ fits c =
     let s = e .before .before .before .before .before in
     subst⁻¹ LineFits (c .line-of .ensures) (line-fits (station s) (s .args .line) (right (e .before .before .before)) (here f))
 
-limits-are : (c : tie.After-limits-of) → let s = c .before .before .before .before .before .before .before .before .before .before in c .limits-of .result ≡ limitsOf (station s .row) (s .args .line)
+limits-are : (c : tie.After-limits-of) → let e = c .before .before .before .before .before in let s = e .before .before .before .before .before in c .limits-of .result ≡ limitsOf (station s .row) (s .args .line)
 limits-are c =
-    let s = c .before .before .before .before .before .before .before .before .before .before in
+    let e = c .before .before .before .before .before in
+    let s = e .before .before .before .before .before in
     c .limits-of .ensures ∙ ap (λ (row : ℕ). limitsOf row (s .args .line)) (c .before .before .before .before .row-of .ensures)
 
 is-sound-requires : tie.Need-is-sound-requires
@@ -91,7 +92,8 @@ returns-3 c =
 line-of-requires : tie.Need-line-of-requires
 line-of-requires c κs =
     let h = here c in
-    let e = c .before .before .before .before .before .before in
+    let at-if2 = c .before .before .before in
+    let e = at-if2 .before .before .before in
     let most = row-facts (station (e .before .before) .row) .threeLines in
     (full e, omega arith)
 
@@ -109,7 +111,8 @@ judge-requires c κs =
     let m = c .before .before in
     let l = m .before in
     let f = l .before in
-    let s = f .before .before .before .before .before .before .before .before in
+    let e = f .before .before .before in
+    let s = e .before .before .before .before .before in
     let r = row-facts (f .before .before .row-of .result) in
     let n = c .before .sample-count .ensures in (
       limits-fair (station s .row) (s .args .line) (here f) (limits-are m) (fits l .small),

@@ -25,20 +25,25 @@ right c = sym (c .before .is-sound .ensures) ∙ not-false _ (c .if1 .left)
 full : (c : tie.Else1) → length (c .before .before .before .args .state .now) ≡ 47
 full c = all-places (c .before .before .before .args .state .now) (right c)
 
-bad-is : (c : tie.After-is-bad-day) → let s = c .before .before .before .before .before .before in c .is-bad-day .result ≡ dayCheck (stationIn (s .args .state .now) .day) (s .args .day) .applies
-bad-is c = let s = c .before .before .before .before .before .before in c .is-bad-day .ensures ∙ ap (λ (d : ℕ). dayCheck d (s .args .day) .applies) (c .before .day-of .ensures)
+bad-is : (c : tie.After-is-bad-day) → let e = c .before .before .before in let s = e .before .before .before in c .is-bad-day .result ≡ dayCheck (stationIn (s .args .state .now) .day) (s .args .day) .applies
+bad-is c =
+    let e = c .before .before .before in
+    let s = e .before .before .before in
+    c .is-bad-day .ensures ∙ ap (λ (d : ℕ). dayCheck d (s .args .day) .applies) (c .before .day-of .ensures)
 
-good : (c : tie.Else2) → let s = c .before .before .before .before .before .before .before in dayCheck (stationIn (s .args .state .now) .day) (s .args .day) .applies ≡ false
+good : (c : tie.Else2) → let e = c .before .before .before .before in let s = e .before .before .before in dayCheck (stationIn (s .args .state .now) .day) (s .args .day) .applies ≡ false
 good c = sym (bad-is (c .before)) ∙ c .if2 .left
 
-today : (c : tie.Else2) → let s = c .before .before .before .before .before .before .before in s .args .day ≤ 99999
+today : (c : tie.Else2) → let e = c .before .before .before .before in let s = e .before .before .before in s .args .day ≤ 99999
 today c =
-    let s = c .before .before .before .before .before .before .before in
+    let e = c .before .before .before .before in
+    let s = e .before .before .before in
     ltb-false 99999 (s .args .day) (or-none (ltb (s .args .day) (stationIn (s .args .state .now) .day)) (ltb 99999 (s .args .day)) (good c) .1)
 
 one-47 : (c : tie.After-repair-line) → length (c .repair-line .last .0) ≡ 47
 one-47 c =
-    let e = c .before .before .before .before .before .before in
+    let at-is-bad-day = c .before .before .before in
+    let e = at-is-bad-day .before .before .before in
     ap length (c .repair-line .ensures) ∙ repaired-47 (e .before .before .before .args .state .now) (full e) 0 (omega arith)
 
 two-47 : (c : tie.After-repair-line2) → length (c .repair-line2 .last .0) ≡ 47
@@ -87,7 +92,9 @@ repair-line-requires-3 : tie.Need-repair-line-requires-3
 repair-line-requires-3 c κs = (two-47 (c .before .before), omega arith)
 
 put-day-requires : tie.Need-put-day-requires
-put-day-requires c κs = (three-47 (c .before .before), today (c .before .before .before .before .before .before .before .before .before .before))
+put-day-requires c κs =
+    let at-repair-line2 = c .before .before .before .before .before in
+    (three-47 (c .before .before), today (at-repair-line2 .before .before .before .before .before))
 
 same-length-3 : tie.Need-same-length-3
 same-length-3 c = search needs

@@ -55,10 +55,11 @@ line-count-requires c κs = search needs
 
 sound-lines-requires : tie.Need-sound-lines-requires
 sound-lines-requires c κs =
-    let r = row-facts (c .before .before .before .before .before .before .row-of .result) in
+    let at-day-of = c .before .before .before in
+    let r = row-facts (at-day-of .before .before .before .row-of .result) in
     let n = c .before .sample-count .ensures in
     let m = c .line-count .ensures in
-    ((omega (arith, r .sixSamples), omega (arith, r .threeLines)), c .before .before .before .before .before .before .before .if1 .left)
+    ((omega (arith, r .sixSamples), omega (arith, r .threeLines)), at-day-of .before .before .before .before .if1 .left)
 
 returns-4 : tie.Need-returns-4
 returns-4 c =

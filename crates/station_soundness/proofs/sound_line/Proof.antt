@@ -21,11 +21,11 @@ small-is c = c .size-at-most .ensures ∙ ap (λ (z : ℤ). leb (natAbs z) 1000)
 small : (c : tie.Else1) → leb (natAbs (lineIn (c .before .before .before .args .part .now) .intercept)) 1000 ≡ true
 small c = sym (small-is (c .before)) ∙ not-false _ (c .if1 .left)
 
-held-is : (c : tie.After-sound-held) → let s = c .before .before .before .before .before .before in let l = lineIn (s .args .part .now) in c .sound-held .result ≡ soundHeld (l .phase) (l .held)
+held-is : (c : tie.After-sound-held) → let e = c .before .before .before in let s = e .before .before .before in let l = lineIn (s .args .part .now) in c .sound-held .result ≡ soundHeld (l .phase) (l .held)
 unfolding lineIn
 held-is c = c .sound-held .ensures ∙ (λ i. soundHeld (c .before .natural-at2 .ensures i) (c .before .before .natural-at .ensures i))
 
-room : (c : tie.Else2) → let s = c .before .before .before .before .before .before .before in let l = lineIn (s .args .part .now) in soundHeld (l .phase) (l .held) ≡ true
+room : (c : tie.Else2) → let e = c .before .before .before .before in let s = e .before .before .before in let l = lineIn (s .args .part .now) in soundHeld (l .phase) (l .held) ≡ true
 room c = sym (held-is (c .before)) ∙ not-false _ (c .if2 .left)
 
 held : (c : tie.After-natural-at) → c .natural-at .result ≡ lineIn (c .before .before .before .before .args .part .now) .held
@@ -54,18 +54,20 @@ sound-held-requires c κs = search needs
 
 returns-2 : tie.Need-returns-2
 returns-2 c =
-    let s = c .before .before .before .before .before .before .before .args in
-    crowded-line (s .n) (s .day) (lineIn (s .part .now)) (small (c .before .before .before .before)) (sym (held-is (c .before)) ∙ not-true _ (c .if2 .taken))
+    let at-if1 = c .before .before .before .before in
+    let s = at-if1 .before .before .before .args in
+    crowded-line (s .n) (s .day) (lineIn (s .part .now)) (small at-if1) (sym (held-is (c .before)) ∙ not-true _ (c .if2 .taken))
 
 cast-sound-past : tie.Need-cast-sound-past
 cast-sound-past c = search needs
 
 sound-past-requires : tie.Need-sound-past-requires
 sound-past-requires c κs =
-    let s = c .before .before .before .before .before .before .before in
+    let at-natural-at = c .before .before .before in
+    let s = at-natural-at .before .before .before .before in
     let l = lineIn (s .args .part .now) in
     let few = held-most (l .phase) (l .held) (room c) in
-    let same = held (c .before .before .before) in
+    let same = held at-natural-at in
     ((s .pre .0, omega arith), s .pre .1)
 
 returns-3 : tie.Need-returns-3

@@ -22,27 +22,31 @@ mul-if3 c = let h = c .before .before .before .before .pre in omega arith
 
 returns-3 : tie.Need-returns-3
 returns-3 c =
-    let s = c .before .before .before .before .before .before .args in
-    large-set (s .n) (s .p) (c .before .before .before .before .if1 .left) (c .before .before .if2 .left) (c .if3 .taken)
+    let at-if1 = c .before .before .before .before in
+    let s = at-if1 .before .before .args in
+    large-set (s .n) (s .p) (at-if1 .if1 .left) (c .before .before .if2 .left) (c .if3 .taken)
 
 mul-size-at-most : tie.Need-mul-size-at-most
 mul-size-at-most c =
-    let h = c .before .before .before .before .before .before .before .before .pre in
+    let at-if2 = c .before .before .before .before in
+    let h = at-if2 .before .before .before .before .pre in
     let t = c .before .before .if3 .left in
     omega arith
 
 size-at-most-requires : tie.Need-size-at-most-requires
 size-at-most-requires c κs =
-    let h = c .before .before .before .before .before .before .before .before .pre in
+    let at-if2 = c .before .before .before .before in
+    let h = at-if2 .before .before .before .before .pre in
     let t = c .before .before .if3 .left in
     omega arith
 
 returns-4 : tie.Need-returns-4
 returns-4 c =
-    let s = c .before .before .before .before .before .before .before .before .before .args in
+    let at-if2 = c .before .before .before .before .before in
+    let s = at-if2 .before .before .before .before .args in
     let f : SFits w32 (s .p .sum) = search needs in
     c .size-at-most .ensures ∙ ap (λ (z : ℤ). leb (natAbs z) (11000 * s .p .count)) (back f .is)
-    ∙ right-set (s .n) (s .p) (c .before .before .before .before .before .before .before .if1 .left) (c .before .before .before .before .before .if2 .left) (c .before .before .before .if3 .left)
+    ∙ right-set (s .n) (s .p) (at-if2 .before .before .if1 .left) (at-if2 .if2 .left) (c .before .before .before .if3 .left)
 
 pub sound-set-spec : {M : Type 1} → statement M
 sound-set-spec =

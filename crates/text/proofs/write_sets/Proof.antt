@@ -1,4 +1,4 @@
--- `chart_file::write_sets` meets its contract.
+-- `text::write_sets` meets its contract.
 use mathlib.Core.Path.{_≡_, refl, sym, _∙_}
 use native.Mathlib.Omega.{arith}
 use borrow.Author.Needs.{needs}
@@ -6,14 +6,14 @@ use mathlib.Core.List.{List}
 use Prim.Native.Nat.{ℕ, _-_, _<_}
 use lib.ListN.{length}
 use denote.Ref.{now}
-use Rattle.chart_places.specs.ChartPlaces.{freshPlaces}
-use Rattle.chart_places.proofs.ReadBack.{read-back}
-use Rattle.text_lines.specs.Line.{lineAt}
-use Rattle.text_lines.specs.declared.LineRead.the-variants.{Values}
-use Rattle.text_lines.proofs.Forward.{line-forward}
-use Rattle.text_gather.specs.Gathering.{seen}
-use Rattle.text.proofs.Gathering.{Left, left-start, left-bad, left-fine, left-room, left-step, left-last, left-done}
-use Rattle.text_ruling.proofs.Rulings.{fine-sample}
+use Rattle.chart_rules.specs.Places.{freshPlaces}
+use Rattle.chart_rules.proofs.Places.{read-back}
+use Rattle.chart_rules.specs.TextLines.{lineAt}
+use Rattle.chart_rules.specs.declared.LineRead.the-variants.{Values}
+use Rattle.chart_rules.proofs.Forward.{line-forward}
+use Rattle.text_gather.specs.Progress.{seen}
+use Rattle.text.proofs.Left.{Left, left-start, left-bad, left-fine, left-room, left-step, left-last, left-done}
+use Rattle.chart_rules.proofs.Rulings.{fine-sample}
 use Rattle.text.proofs.write_sets.Statement.{statement}
 use Rattle.text.proofs.write_sets.Tie as tie
 
@@ -79,10 +79,16 @@ flush-requires : tie.Need-flush-requires Inv-loop μ-loop
 flush-requires c κs = let l = c .before .before .before .before .loop .inv in (l .few, left-last l (c .before .before .before .loop-test .left))
 
 same-length-2 : tie.Need-same-length-2 Inv-loop μ-loop
-same-length-2 c = c .before .before .flush .kept .1 .1 .0 ∙ c .before .before .before .before .before .before .before .loop .inv .long
+same-length-2 c =
+    let flushed = c .before .before in
+    let done = flushed .before .before .before .before in
+    flushed .flush .kept .1 .1 .0 ∙ done .before .loop .inv .long
 
 returns-2 : tie.Need-returns-2 Inv-loop μ-loop
-returns-2 c = left-done (c .before .before .before .before .before .before .before .loop .inv) (c .before .before .before .before .before .before .loop-test .left) _ _ (c .before .before .flush .ensures .1)
+returns-2 c =
+    let flushed = c .before .before in
+    let done = flushed .before .before .before .before in
+    left-done (done .before .loop .inv) (done .loop-test .left) _ _ (flushed .flush .ensures .1)
 
 pub write-sets-spec : {M : Type 1} → statement M
 write-sets-spec =

@@ -1,22 +1,24 @@
--- `chart_gather::flush` meets its contract.
+-- `text_gather::flush` meets its contract.
 use Prim.Native.Nat.{_+_, _-_, _≤_, ℕ, _*_}
 use mathlib.Core.List.{_∷_, []}
 use lib.ListN.{take, length}
 use denote.Ref.{now}
-use Rattle.chart_places.specs.ChartPlaces.{chartAt}
-use Rattle.chart.specs.Calls.{ChartResult, resultOf, bytesOf}
-use Rattle.chart.proofs.Charted.{enough-room}
-use Rattle.chart_line.specs.declared.Values.{Values}
-use Rattle.chart.specs.declared.ChartAnswer.{ChartAnswer}
-use Rattle.chart.specs.declared.ChartAnswer.the-variants.{Charted}
-use Rattle.chart.specs.InPlace.{leftBy}
-use Rattle.text_gather.specs.Gathering.{finished, seen}
-use Rattle.text_gather.proofs.Gathering.{seen-none, seen-some}
-use Rattle.text_gather.proofs.Charting.{chart-short, flush-chart, flush-bytes, flush-length}
+use Rattle.chart_rules.specs.Places.{chartAt}
+use Rattle.chart_rules.specs.Calls.{ChartResult, resultOf, bytesOf}
+use Rattle.chart_rules.proofs.Charted.{enough-room}
+use Rattle.chart_rules.specs.declared.Values.{Values}
+use Rattle.chart_rules.specs.declared.ChartAnswer.{ChartAnswer}
+use Rattle.chart_rules.specs.declared.ChartAnswer.the-variants.{Charted}
+use Rattle.chart_rules.specs.InPlace.{leftBy}
+use Rattle.chart_rules.specs.Gathering.{finished}
+use Rattle.text_gather.specs.Progress.{seen}
+use Rattle.text_gather.proofs.Seen.{seen-none, seen-some}
+use Rattle.chart_rules.proofs.Output.{chart-short}
+use Rattle.text_gather.proofs.UnderWay.{flush-chart, flush-bytes, flush-length}
 use mathlib.Core.Path.{_≡_, refl, sym, ap, _∙_}
 use native.Mathlib.Omega.{arith}
 use Rattle.decimal.proofs.Put.{put-is}
-use Rattle.text_gather.specs.Charting.{chartAll, chartAfter}
+use Rattle.chart_rules.specs.Output.{chartAll, chartAfter}
 use borrow.Author.Needs.{needs}
 use Rattle.text_gather.proofs.flush.Statement.{statement}
 use Rattle.text_gather.proofs.flush.Tie as tie
@@ -25,13 +27,17 @@ use Rattle.text_gather.proofs.flush.Tie as tie
 abbrev Called : Type 0
 Called = tie.After-chart-set-at
 
+-- where the set is known to have a line
+abbrev some : Called → tie.Else1
+some c = let asked = c .before .before .before in asked .before .before .before
+
 abbrev start : Called → tie.Start
-start c = c .before .before .before .before .before .before .before .before
+start c = some c .before .before
 
 fin : (c : Called) → finished (seen (start c .args .s)) ≡ seen (start c .args .s) ∷ []
 fin c =
     let ten : length (start c .args .s .numbers) ≡ 10 = search needs in
-    seen-some (start c .args .s) (c .before .before .before .before .before .before .if1 .left) (start c .pre .0) ten
+    seen-some (start c .args .s) (some c .if1 .left) (start c .pre .0) ten
 
 is : (c : Called) → c .chart-set-at .result ≡ resultOf (chartAt (start c .args .chart)) (start c .args .s .week) (take (2 * start c .args .s .count) (start c .args .s .numbers)) 40 .answer
 is c =
@@ -92,9 +98,10 @@ enum-known-length c = search needs
 
 add-t25 : tie.Need-add-t25
 add-t25 c =
-    let r = c .before .before .before .before .before .before in
+    let told = c .before in
+    let r = told .before .before .before .before .before in
     let s = start r in
-    omega (arith, answered r _ _ (c .before .length .given .1), ap length (bytes r), chart-short (chartAt (s .args .chart)) (finished (seen (s .args .s))), ap length (fin r), s .pre .1)
+    omega (arith, answered r _ _ (told .length .given .1), ap length (bytes r), chart-short (chartAt (s .args .chart)) (finished (seen (s .args .s))), ap length (fin r), s .pre .1)
 
 enum-told : tie.Need-enum-told
 enum-told c = search needs
@@ -105,8 +112,9 @@ same-length c = search needs
 returns-2 : tie.Need-returns-2
 unfolding seen
 returns-2 c =
-    let r = c .before .before .before .before .before .before in
-    let k = answered r _ _ (c .before .length .given .1) in
+    let told = c .before in
+    let r = told .before .before .before .before .before in
+    let k = answered r _ _ (told .length .given .1) in
     let put = r .chart-set-at .ensures .1 .1 in (
       record { after = after r; set = refl; count = refl },
       put-is (record { written = put .written; behind = ap (λ (n : ℕ). start r .args .end + n) k }) (bytes r),

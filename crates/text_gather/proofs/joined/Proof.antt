@@ -1,4 +1,4 @@
--- `chart_gather::joined` meets its contract.
+-- `text_gather::joined` meets its contract.
 use mathlib.Core.Path.{_≡_, refl, _∙_}
 use native.Mathlib.Omega.{arith}
 use Prim.Native.Nat.{_+_, _*_}
@@ -6,8 +6,8 @@ use lib.ListN.{length, take, set}
 use mir.Syntax.{w32}
 use mir.Val.{SFits}
 use mir.ValLaws.{toZ-ofZ}
-use Rattle.text_gather.specs.Gathering.{seen}
-use Rattle.text_gather.proofs.Gathering.{grown}
+use Rattle.text_gather.specs.Progress.{seen}
+use Rattle.text_gather.proofs.Seen.{grown}
 use borrow.Author.Needs.{needs}
 use Rattle.text_gather.proofs.joined.Statement.{statement}
 use Rattle.text_gather.proofs.joined.Tie as tie

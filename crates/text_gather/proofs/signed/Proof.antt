@@ -1,4 +1,4 @@
--- `chart_gather::signed` meets its contract.
+-- `text_gather::signed` meets its contract.
 use lib.IntN.{pos}
 use mir.Syntax.{w32}
 use mir.ValLaws.{toZ-ofZ}

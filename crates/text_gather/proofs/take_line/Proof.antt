@@ -1,35 +1,43 @@
--- `chart_gather::take_line` meets its contract.
+-- `text_gather::take_line` meets its contract.
 use mathlib.Core.Path.{refl, sym, ap, _∙_}
 use native.Mathlib.Omega.{arith}
 use lib.ListN.{length}
 use Rattle.decimal.proofs.Put.{put-is}
-use Rattle.chart_places.specs.ChartPlaces.{chartAt}
-use Rattle.text_gather.specs.Gathering.{Gathered, seen, joined}
-use Rattle.text_gather.specs.Charting.{chartAll, chartAfter}
-use Rattle.text_gather.proofs.Gathering.{closed-start, closed-next, kept-start, kept-next}
-use Rattle.text_ruling.proofs.Rulings.{fine-results, fine-next}
+use Rattle.chart_rules.specs.Places.{chartAt}
+use Rattle.chart_rules.specs.Gathering.{Gathered, joined}
+use Rattle.text_gather.specs.Progress.{seen}
+use Rattle.chart_rules.specs.Output.{chartAll, chartAfter}
+use Rattle.chart_rules.proofs.Gathering.{closed-start, closed-next, kept-start, kept-next}
+use Rattle.chart_rules.proofs.Rulings.{fine-results, fine-next}
 use borrow.Author.Needs.{needs}
 use Rattle.text_gather.proofs.take_line.Statement.{statement}
 use Rattle.text_gather.proofs.take_line.Tie as tie
 
 flush-requires : tie.Need-flush-requires
 flush-requires c κs =
-    let s = c .before .before .before .before .before .before in
-    let e = ap length (closed-start (seen (s .args .p .set)) (s .args .v) (c .before .if1 .taken)) in
+    let first = c .before in
+    let s = first .before .before .before .before .before in
+    let e = ap length (closed-start (seen (s .args .p .set)) (s .args .v) (first .if1 .taken)) in
     (s .pre .1 .0, omega (arith, s .pre .1 .1))
 
 joined-requires : tie.Need-joined-requires
-joined-requires c κs = let s = c .before .before .before .before .before .before .before .before .before .before in (omega (arith, c .before .before .before .flush .ensures .0 .count), fine-results _ _ _ (s .pre .0))
+joined-requires c κs =
+    let flushed = c .before .before .before in
+    let first = flushed .before .before in
+    let s = first .before .before .before .before .before in
+    (omega (arith, flushed .flush .ensures .0 .count), fine-results _ _ _ (s .pre .0))
 
 same-length : tie.Need-same-length
 same-length c = search needs
 
 returns : tie.Need-returns
 returns c =
-    let s = c .before .before .before .before .before .before .before .before .before .before .before .before in
+    let flushed = c .before .before .before .before .before in
+    let first = flushed .before .before in
+    let s = first .before .before .before .before .before in
     let g = seen (s .args .p .set) in
-    let one = c .before .before .before .before .before .before .before .if1 .taken in
-    let f = c .before .before .before .before .before .flush .ensures in
+    let one = first .if1 .taken in
+    let f = flushed .flush .ensures in
     let j = c .before .joined .ensures in
     let shut = sym (closed-start g (s .args .v) one) in (
       record {
@@ -47,9 +55,10 @@ joined-requires-2 c κs = let s = c .before .before .before .before .before in (
 returns-2 : tie.Need-returns-2
 unfolding chartAll chartAfter
 returns-2 c =
-    let s = c .before .before .before .before .before .before in
+    let next = c .before in
+    let s = next .before .before .before .before .before in
     let g = seen (s .args .p .set) in
-    let other = c .before .if1 .left in
+    let other = next .if1 .left in
     let j = c .joined2 .ensures in
     let shut = sym (closed-next g (s .args .v) other) in (
       record {

@@ -1,4 +1,4 @@
--- `chart_judge::counted` meets its contract.
+-- `text_judge::counted` meets its contract.
 use borrow.Author.Tests.{eq-eqb, ne-eqb}
 use native.Mathlib.Omega.{arith}
 use borrow.Author.Needs.{needs}

@@ -1,7 +1,7 @@
--- `chart_judge::judge` meets its contract.
+-- `text_judge::judge` meets its contract.
 use mathlib.Core.Path.{sym, _∙_}
 use borrow.Author.Tests.{lt-ltb, le-ltb}
-use Rattle.text_judge.specs.Judging.{judged}
+use Rattle.chart_rules.specs.Judging.{judged}
 use borrow.Author.Needs.{needs}
 use Rattle.text_judge.proofs.judge.Statement.{statement}
 use Rattle.text_judge.proofs.judge.Tie as tie

@@ -1,4 +1,4 @@
--- `chart_judge::judge_lines` meets its contract.
+-- `text_judge::judge_lines` meets its contract.
 use mathlib.Core.Path.{_≡_, sym, _∙_}
 use native.Mathlib.Omega.{arith}
 use borrow.Author.Needs.{needs}
@@ -6,18 +6,18 @@ use mathlib.Core.List.{List}
 use Prim.Native.Nat.{ℕ, _-_, _≤_, _<_}
 use lib.ListN.{length}
 use denote.Ref.{now}
-use Rattle.text_lines.specs.Line.{lineAt}
-use Rattle.text_lines.specs.declared.LineRead.the-variants.{Values}
-use Rattle.text_lines.proofs.Forward.{line-forward}
-use Rattle.text_ruling.specs.Rulings.{firstRefusal, FineLine}
-use Rattle.text_judge.specs.Judging.{linesAt, valueLines, linesChecks, starts, verdict}
-use Rattle.text_ruling.proofs.Rulings.{fine-line, fine-sample}
-use Rattle.text_judge.proofs.Judging.{verdictAt, judge-start, judge-end, judge-bad, judge-refused, judge-more, one-or-none}
+use Rattle.chart_rules.specs.TextLines.{lineAt}
+use Rattle.chart_rules.specs.declared.LineRead.the-variants.{Values}
+use Rattle.chart_rules.proofs.Forward.{line-forward}
+use Rattle.chart_rules.specs.Judging.{firstRuling, linesAt, valueLines, linesChecks, starts, verdict}
+use Rattle.chart_rules.specs.Fine.{FineLine}
+use Rattle.chart_rules.proofs.Rulings.{fine-line, fine-sample}
+use Rattle.chart_rules.proofs.Judging.{verdictAt, judge-start, judge-end, judge-bad, judge-refused, judge-more, one-or-none}
 use Rattle.text_judge.proofs.judge_lines.Statement.{statement}
 use Rattle.text_judge.proofs.judge_lines.Tie as tie
 
 abbrev Inv-loop : tie.InvT-loop
-Inv-loop text at₀ line₀ week₀ sample₀ sets₀ at line week sample sets = (line ≤ at) × (sets ≤ line) × (sample ≤ 5) × (verdictAt week sample sets line (linesAt text at) ≡ verdict (firstRefusal (linesChecks 0 0 2 (valueLines text))) (starts (valueLines text)))
+Inv-loop text at₀ line₀ week₀ sample₀ sets₀ at line week sample sets = (line ≤ at) × (sets ≤ line) × (sample ≤ 5) × (verdictAt week sample sets line (linesAt text at) ≡ verdict (firstRuling (linesChecks 0 0 2 (valueLines text))) (starts (valueLines text)))
 
 abbrev μ-loop : tie.MeasureT-loop
 μ-loop text at₀ line₀ week₀ sample₀ sets₀ at line week sample sets = length text - at
@@ -26,17 +26,20 @@ abbrev μ-loop : tie.MeasureT-loop
 abbrev Read : Type 0
 Read = tie.After-rule Inv-loop μ-loop
 
+abbrev at-read : Read → tie.After-read-line Inv-loop μ-loop
+at-read c = c .before .before .before .before
+
 abbrev at-loop : Read → tie.At-loop Inv-loop μ-loop
-at-loop c = c .before .before .before .before .before .before
+at-loop c = at-read c .before .before
 
 abbrev text : Read → List ℕ
 text c = now (at-loop c .before .before .args .text)
 
 read : (c : Read) → lineAt (text c) (at-loop c .loop .at) ≡ Values (c .before .before .v .given .0 .0) (c .before .before .v .given .0 .1 .0)
-read c = sym (c .before .before .before .before .read-line .ensures) ∙ c .before .before .v .given .1
+read c = sym (at-read c .read-line .ensures) ∙ c .before .before .v .given .1
 
 inside : (c : Read) → at-loop c .loop .at < length (text c)
-inside c = c .before .before .before .before .before .loop-test .taken
+inside c = at-read c .before .loop-test .taken
 
 forward : (c : Read) → at-loop c .loop .at < c .before .before .v .given .0 .1 .0
 forward c = line-forward _ _ _ _ (read c)

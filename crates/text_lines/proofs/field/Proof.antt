@@ -1,10 +1,10 @@
--- `chart_lines::field` meets its contract: each way out is one law of `field`.
+-- `text_lines::field` meets its contract: each way out is one law of `field`.
 use borrow.Author.Needs.{needs}
 use mathlib.Core.Path.{_≡_, sym, _∙_}
 use denote.Ref.{now}
-use Rattle.text_numbers.specs.Decimal.{numberAt}
-use Rattle.text_numbers.specs.declared.Number.the-variants.{Value}
-use Rattle.text_lines.proofs.Laws.{field-none, field-end, field-other, field-past}
+use Rattle.chart_rules.specs.TextLines.{numberAt}
+use Rattle.chart_rules.specs.declared.Number.the-variants.{Value}
+use Rattle.chart_rules.proofs.Fields.{field-none, field-end, field-other, field-past}
 use Rattle.text_lines.proofs.field.Statement.{statement}
 use Rattle.text_lines.proofs.field.Tie as tie
 

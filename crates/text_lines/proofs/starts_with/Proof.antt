@@ -1,10 +1,10 @@
--- `chart_lines::starts_with` meets its contract. The invariant: what is left of the two compares as the whole does.
+-- `text_lines::starts_with` meets its contract. The invariant: what is left of the two compares as the whole does.
 use mathlib.Core.Path.{_≡_, refl, sym, _∙_}
 use Prim.Native.Nat.{_-_}
 use borrow.Author.Needs.{needs}
 use lib.ListN.{length, drop}
-use Rattle.text_lines.specs.Names.{startsWith}
-use Rattle.text_lines.proofs.Laws.{starts-done, starts-short, starts-other, starts-more}
+use Rattle.chart_rules.specs.TextLines.{startsWith}
+use Rattle.chart_rules.proofs.Fields.{starts-done, starts-short, starts-other, starts-more}
 use Rattle.text_lines.proofs.starts_with.Statement.{statement}
 use Rattle.text_lines.proofs.starts_with.Tie as tie
 

@@ -1,4 +1,4 @@
--- `chart_numbers::digits_at` meets its contract.
+-- `text_numbers::digits_at` meets its contract.
 use mathlib.Core.Path.{_≡_, refl, sym, _∙_}
 use Prim.Native.Nat.{ℕ, _-_, _≤_, _<_}
 use native.Mathlib.Omega.{arith}
@@ -8,8 +8,8 @@ use mathlib.Core.List.{List}
 use mathlib.Core.Bool.{true}
 use denote.Ref.{now}
 use lib.ListN.{length, getD, drop}
-use Rattle.text_numbers.specs.Decimal.{isDigit, digits}
-use Rattle.text_numbers.proofs.Laws.{digit-range, digits-end, digits-stop, digits-long, digits-more}
+use Rattle.chart_rules.specs.TextLines.{isDigit, digits}
+use Rattle.chart_rules.proofs.Numbers.{digit-range, digits-end, digits-stop, digits-long, digits-more}
 use Rattle.text_numbers.proofs.digits_at.Statement.{statement}
 use Rattle.text_numbers.proofs.digits_at.Tie as tie
 

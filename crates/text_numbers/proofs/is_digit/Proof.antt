@@ -1,6 +1,6 @@
--- `chart_numbers::is_digit` meets its contract.
+-- `text_numbers::is_digit` meets its contract.
 use borrow.Author.Tests.{le-leb, lt-leb}
-use Rattle.text_numbers.specs.Decimal.{isDigit}
+use Rattle.chart_rules.specs.TextLines.{isDigit}
 use Rattle.text_numbers.proofs.is_digit.Statement.{statement}
 use Rattle.text_numbers.proofs.is_digit.Tie as tie
 

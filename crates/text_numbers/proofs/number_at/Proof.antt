@@ -1,12 +1,12 @@
--- `chart_numbers::number_at` meets its contract: each way out is one law of `numberAt`.
+-- `text_numbers::number_at` meets its contract: each way out is one law of `numberAt`.
 use borrow.Author.Needs.{needs}
 use mathlib.Core.Path.{_≡_, sym, _∙_}
 use mathlib.Core.Bool.{true}
 use native.Mathlib.Omega.{arith}
 use lib.ListN.{getD}
 use denote.Ref.{now}
-use Rattle.text_numbers.specs.Decimal.{isDigit}
-use Rattle.text_numbers.proofs.Laws.{digit-range, number-end, number-zero, number-digits, number-other}
+use Rattle.chart_rules.specs.TextLines.{isDigit}
+use Rattle.chart_rules.proofs.Numbers.{digit-range, number-end, number-zero, number-digits, number-other}
 use Rattle.text_numbers.proofs.number_at.Statement.{statement}
 use Rattle.text_numbers.proofs.number_at.Tie as tie
 
@@ -28,7 +28,10 @@ is-digit-requires c κs = search needs
 add-digits-at : tie.Need-add-digits-at
 add-digits-at c = search needs
 
-digit : (c : tie.Then3) → isDigit (getD (now (c .before .before .before .before .before .before .args .text)) (c .before .before .before .before .before .before .args .at) 0) ≡ true
+digit : (c : tie.Then3)
+    → let inside = c .before .before .before .before in
+    let s = inside .before .before .args in
+    isDigit (getD (now (s .text)) (s .at) 0) ≡ true
 digit c = sym (c .before .is-digit .ensures) ∙ c .if3 .taken
 
 sub-digits-at : tie.Need-sub-digits-at

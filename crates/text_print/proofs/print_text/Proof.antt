@@ -1,8 +1,8 @@
--- `chart_print::print_text` meets its contract.
+-- `text_print::print_text` meets its contract.
 use borrow.Author.Needs.{needs}
 use native.Mathlib.Omega.{arith}
 use Rattle.decimal.proofs.Put.{put-whole}
-use Rattle.text_print.proofs.Printing.{printed-short, printed-written, printed-refused}
+use Rattle.chart_rules.proofs.Printing.{printed-short, printed-written, printed-refused}
 use Rattle.text_print.proofs.print_text.Statement.{statement}
 use Rattle.text_print.proofs.print_text.Tie as tie
 
@@ -22,22 +22,31 @@ number-of-requires : tie.Need-number-of-requires
 number-of-requires c κs = search needs
 
 put-refusal-requires : tie.Need-put-refusal-requires
-put-refusal-requires c κs = omega (arith, c .before .before .before .before .before .before .before .chart-text .kept .1 .0, c .before .before .before .before .before .before .before .before .before .if1 .left)
+put-refusal-requires c κs =
+    let refused = c .before .before .before in
+    let called = refused .before .before .before .before in
+    omega (arith, called .chart-text .kept .1 .0, called .before .before .if1 .left)
 
 same-length : tie.Need-same-length
 same-length c = search needs
 
 returns-2 : tie.Need-returns-2
-returns-2 c = printed-written _ _ _ (c .before .before .before .before .before .before .before .if1 .left) _ (c .before .before .before .before .before .chart-text .ensures) _ (c .before .length .given .1)
+returns-2 c =
+    let called = c .before .before .before .before .before in
+    printed-written _ _ _ (called .before .before .if1 .left) _ (called .chart-text .ensures) _ (c .before .length .given .1)
 
 same-length-2 : tie.Need-same-length-2
 same-length-2 c = search needs
 
 returns-3 : tie.Need-returns-3
 returns-3 c =
+    let numbered = c .before .before .before .before in
+    let refused = numbered .before .before in
+    let called = refused .before .before .before .before in
+    let room = called .before .before .if1 .left in
     let put = c .before .before .put-refusal .ensures in
-    let whole = put-whole (put .0) (omega (arith, put .0 .behind, put .1, c .before .before .before .before .before .before .before .before .before .before .chart-text .kept .1 .0, c .before .before .before .before .before .before .before .before .before .before .before .before .if1 .left)) in
-    printed-refused _ _ _ (c .before .before .before .before .before .before .before .before .before .before .before .before .if1 .left) _ (c .before .before .before .before .before .before .before .before .before .before .chart-text .ensures) _ _ (c .before .before .before .before .before .before .refusal .given .1) _ _ _ (c .before .before .before .before .number-of .ensures) (whole .1) (whole .0)
+    let whole = put-whole (put .0) (omega (arith, put .0 .behind, put .1, called .chart-text .kept .1 .0, room)) in
+    printed-refused _ _ _ room _ (called .chart-text .ensures) _ _ (refused .refusal .given .1) _ _ _ (numbered .number-of .ensures) (whole .1) (whole .0)
 
 pub print-text-spec : {M : Type 1} → statement M
 print-text-spec =

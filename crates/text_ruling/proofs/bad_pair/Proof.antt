@@ -1,6 +1,6 @@
--- `chart_ruling::bad_pair` meets its contract.
+-- `text_ruling::bad_pair` meets its contract.
 use mathlib.Core.Path.{_∙_}
-use Rattle.text_ruling.proofs.Rulings.{bad-pair}
+use Rattle.chart_rules.proofs.Rulings.{bad-pair}
 use borrow.Author.Needs.{needs}
 use Rattle.text_ruling.proofs.bad_pair.Statement.{statement}
 use Rattle.text_ruling.proofs.bad_pair.Tie as tie

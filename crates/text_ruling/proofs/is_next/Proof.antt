@@ -1,7 +1,7 @@
--- `chart_ruling::is_next` meets its contract.
+-- `text_ruling::is_next` meets its contract.
 use mathlib.Core.Path.{_∙_}
-use Rattle.chart_sets.proofs.Flags.{and2}
-use Rattle.text_ruling.specs.Rulings.{isNext}
+use Rattle.whole.proofs.Tests.{and2}
+use Rattle.chart_rules.specs.Judging.{isNext}
 use borrow.Author.Needs.{needs}
 use Rattle.text_ruling.proofs.is_next.Statement.{statement}
 use Rattle.text_ruling.proofs.is_next.Tie as tie

@@ -1,7 +1,7 @@
--- `chart_ruling::is_start` meets its contract.
+-- `text_ruling::is_start` meets its contract.
 use mathlib.Core.Path.{_∙_, refl}
-use Rattle.chart_sets.proofs.Flags.{and2}
-use Rattle.text_ruling.specs.Rulings.{isStart}
+use Rattle.whole.proofs.Tests.{and2}
+use Rattle.chart_rules.specs.Judging.{isStart}
 use borrow.Author.Needs.{needs}
 use Rattle.text_ruling.proofs.is_start.Statement.{statement}
 use Rattle.text_ruling.proofs.is_start.Tie as tie

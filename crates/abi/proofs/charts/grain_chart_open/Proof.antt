@@ -1,5 +1,5 @@
 use mathlib.Core.Path.{ap, _∙_}
-use Rattle.chart.specs.InPlace.{OpenedIn}
+use Rattle.chart_rules.specs.InPlace.{OpenedIn}
 use Rattle.abi_chart.specs.ChartAnswers.{openGiven, chartOpenCall}
 use borrow.Author.Needs.{needs}
 use Rattle.abi.proofs.charts.grain_chart_open.Statement.{statement}

@@ -1,6 +1,6 @@
 use mathlib.Core.Path.{ap, _∙_}
 use denote.Ref.{now}
-use Rattle.chart.specs.InPlace.{ChartedIn}
+use Rattle.chart_rules.specs.InPlace.{ChartedIn}
 use Rattle.abi_chart.specs.ChartAnswers.{setGiven, chartSetCall}
 use Rattle.abi_chart.proofs.Lengths.{line-length}
 use borrow.Author.Needs.{needs}
@@ -12,8 +12,9 @@ chart-set-requires c κs = search needs
 
 charted-requires : tie.Need-charted-requires
 charted-requires c κs =
-    let s = c .before .before .before .before .before .before in
-    rw (ap (λ (x : ChartedIn). x .answer) (c .before .before .chart-set .ensures)) (line-length (now (s .args .state)) (s .args .week) (now (s .args .numbers)) (now (s .args .line)))
+    let called = c .before .before in
+    let s = called .before .before .before .before in
+    rw (ap (λ (x : ChartedIn). x .answer) (called .chart-set .ensures)) (line-length (now (s .args .state)) (s .args .week) (now (s .args .numbers)) (now (s .args .line)))
 
 same-length : tie.Need-same-length
 same-length c = search needs

@@ -1,6 +1,6 @@
 use mathlib.Core.Path.{sym, ap, _∙_}
 use denote.Ref.{now}
-use Rattle.text.specs.Texts.{TextCharted}
+use Rattle.chart_rules.specs.Output.{TextCharted}
 use Rattle.abi_chart.specs.ChartAnswers.{textGiven, chartTextCall}
 use Rattle.abi_chart.proofs.Lengths.{text-length}
 use borrow.Author.Needs.{needs}
@@ -12,8 +12,9 @@ chart-text-requires c κs = search needs
 
 written-requires : tie.Need-written-requires
 written-requires c κs =
-    let s = c .before .before .before .before .before .before in
-    rw (sym (ap (λ (x : TextCharted). x .answer) (c .before .before .chart-text .ensures))) (text-length (now (s .args .text)) (now (s .args .out)))
+    let called = c .before .before in
+    let s = called .before .before .before .before in
+    rw (sym (ap (λ (x : TextCharted). x .answer) (called .chart-text .ensures))) (text-length (now (s .args .text)) (now (s .args .out)))
 
 same-length : tie.Need-same-length
 same-length c = search needs

@@ -7,23 +7,18 @@ use borrow.Author.Needs.{needs}
 use Rattle.abi.proofs.stations.grain_market.Statement.{statement}
 use Rattle.abi.proofs.stations.grain_market.Tie as tie
 
--- src/stations.rt:57:9
 scan-of-requires : tie.Need-scan-of-requires
 scan-of-requires c κs = search needs
 
--- src/stations.rt:58:9
 basis-for-requires : tie.Need-basis-for-requires
 basis-for-requires c κs = search needs
 
--- src/stations.rt:59:29
 market-requires : tie.Need-market-requires
 market-requires c κs = search needs
 
--- src/stations.rt:59:5
 tested-requires : tie.Need-tested-requires
 tested-requires c κs = search needs
 
--- src/stations.rt:43:1
 returns : tie.Need-returns
 unfolding marketCall
 returns c =

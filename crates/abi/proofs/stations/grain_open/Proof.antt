@@ -6,15 +6,12 @@ use borrow.Author.Needs.{needs}
 use Rattle.abi.proofs.stations.grain_open.Statement.{statement}
 use Rattle.abi.proofs.stations.grain_open.Tie as tie
 
--- src/stations.rt:21:29
 open-requires : tie.Need-open-requires
 open-requires c κs = search needs
 
--- src/stations.rt:21:5
 opened-requires : tie.Need-opened-requires
 opened-requires c κs = search needs
 
--- src/stations.rt:17:1
 returns : tie.Need-returns
 unfolding openCall
 returns c =

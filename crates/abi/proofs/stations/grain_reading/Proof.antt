@@ -4,15 +4,12 @@ use borrow.Author.Needs.{needs}
 use Rattle.abi.proofs.stations.grain_reading.Statement.{statement}
 use Rattle.abi.proofs.stations.grain_reading.Tie as tie
 
--- src/stations.rt:14:27
 reading-requires : tie.Need-reading-requires
 reading-requires c κs = search needs
 
--- src/stations.rt:14:5
 read-requires : tie.Need-read-requires
 read-requires c κs = search needs
 
--- src/stations.rt:10:1
 returns : tie.Need-returns
 returns c = c .read .ensures ∙ ap readingGiven (c .before .reading .ensures)
 

@@ -6,15 +6,12 @@ use borrow.Author.Needs.{needs}
 use Rattle.abi.proofs.stations.grain_repair.Statement.{statement}
 use Rattle.abi.proofs.stations.grain_repair.Tie as tie
 
--- src/stations.rt:40:31
 repair-requires : tie.Need-repair-requires
 repair-requires c κs = search needs
 
--- src/stations.rt:40:5
 repaired-requires : tie.Need-repaired-requires
 repaired-requires c κs = search needs
 
--- src/stations.rt:36:1
 returns : tie.Need-returns
 unfolding repairCall
 returns c =

@@ -6,15 +6,12 @@ use borrow.Author.Needs.{needs}
 use Rattle.abi.proofs.stations.grain_sheet.Statement.{statement}
 use Rattle.abi.proofs.stations.grain_sheet.Tie as tie
 
--- src/stations.rt:33:29
 sheet-requires : tie.Need-sheet-requires
 sheet-requires c κs = search needs
 
--- src/stations.rt:33:5
 judged-requires : tie.Need-judged-requires
 judged-requires c κs = search needs
 
--- src/stations.rt:24:1
 returns : tie.Need-returns
 unfolding sheetCall
 returns c =

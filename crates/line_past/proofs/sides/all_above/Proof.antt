@@ -4,9 +4,9 @@ use Prim.Native.Nat.{_-_, _≤_}
 use native.Mathlib.Omega.{arith}
 use lib.ListN.{length}
 use borrow.Author.Needs.{needs}
+use Rattle.whole.specs.Lists.{above}
 use Rattle.whole.proofs.Fold.{Going, going-start, going-next, going-done}
 use Rattle.whole.proofs.ListLaws.{andAlso, all-fold}
-use Rattle.station_rules.specs.Lines.{above}
 use Rattle.station_rules.specs.Held.{noSet}
 use Rattle.station_rules.specs.declared.PastSet.{PastSet}
 use Rattle.line_past.proofs.sides.all_above.Statement.{statement}

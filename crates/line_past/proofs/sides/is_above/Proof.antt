@@ -2,8 +2,8 @@ use mathlib.Core.Path.{ap}
 use mir.Syntax.{w32}
 use mir.Val.{SFits}
 use borrow.Author.Needs.{needs}
+use Rattle.whole.specs.Lists.{above}
 use Rattle.whole.proofs.Read.{back}
-use Rattle.station_rules.specs.Lines.{above}
 use Rattle.line_past.proofs.sides.is_above.Statement.{statement}
 use Rattle.line_past.proofs.sides.is_above.Tie as tie
 

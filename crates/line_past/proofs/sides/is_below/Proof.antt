@@ -2,8 +2,8 @@ use mathlib.Core.Path.{ap}
 use mir.Syntax.{w32}
 use mir.Val.{SFits}
 use borrow.Author.Needs.{needs}
+use Rattle.whole.specs.Lists.{below}
 use Rattle.whole.proofs.Read.{back}
-use Rattle.station_rules.specs.Lines.{below}
 use Rattle.line_past.proofs.sides.is_below.Statement.{statement}
 use Rattle.line_past.proofs.sides.is_below.Tie as tie
 

@@ -3,8 +3,8 @@ use mathlib.Core.Bool.{_&&_, _||_}
 use lib.ListN.{length}
 use mir.Syntax.{w32}
 use mir.Val.{SFits}
+use Rattle.whole.specs.Lists.{above, below}
 use Rattle.whole.proofs.Read.{back}
-use Rattle.station_rules.specs.Lines.{above, below}
 use Rattle.line_past.proofs.SideLaws.{same-side}
 use borrow.Author.Needs.{needs}
 use Rattle.line_past.proofs.sides.on_one_side.Statement.{statement}
@@ -27,11 +27,12 @@ either-requires c κs = tt
 
 returns : tie.Need-returns
 returns c =
-    let s = c .before .before .before .before .before .before .before .before .before .args in
+    let at-both = c .before .before .before .before .before in
+    let s = at-both .before .before .before .before .args in
     let full : length (s .past) ≡ 4 = search needs in
     let f : SFits w32 (s .set .sum) = search needs in
     c .either .ensures
-    ∙ ap₂ _||_ (c .before .before .before .before .before .both .ensures ∙ ap₂ _&&_ (ap above (back f .is)) (c .before .before .before .before .before .before .all-above .ensures))
+    ∙ ap₂ _||_ (at-both .both .ensures ∙ ap₂ _&&_ (ap above (back f .is)) (at-both .before .all-above .ensures))
     (c .before .both2 .ensures ∙ ap₂ _&&_ (ap below (back f .is)) (c .before .before .all-below .ensures))
     ∙ same-side (s .set .sum) (s .past) full
 

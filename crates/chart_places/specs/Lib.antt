@@ -1,2 +1,0 @@
-pub mod ChartPlaces
-pub mod ChartLaws

@@ -1,0 +1,19 @@
+-- The rules of control charts, one file for each part: a chart and its calls; the calls on a chart that lies in its caller's places; then chart texts and what is printed of them; laws and cases.
+pub mod Rows
+pub mod Sets
+pub mod Limits
+pub mod Run
+pub mod Charts
+pub mod Lines
+pub mod Refusals
+pub mod Calls
+pub mod Places
+pub mod InPlace
+pub mod TextLines
+pub mod Judging
+pub mod Gathering
+pub mod Output
+pub mod Printing
+pub mod Laws
+pub mod Cases
+pub mod Fine

@@ -1,2 +1,0 @@
-pub mod Charts
-pub mod Laws

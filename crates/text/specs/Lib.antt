@@ -1,3 +1,0 @@
-pub mod Texts
-pub mod Answers
-pub mod Laws

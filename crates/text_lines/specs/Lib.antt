@@ -1,3 +1,0 @@
-pub mod Line
-pub mod Names
-pub mod Laws
