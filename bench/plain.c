@@ -1,4 +1,4 @@
-/* Paper 01 in plain C over the structs of grain.h. Written from the paper, shares nothing with the core. */
+/* The rules of docs/SPECIFICATION.md in plain C over the structs of grain.h. Written from the rules, shares nothing with the core. */
 #include "plain.h"
 
 #include <stdbool.h>

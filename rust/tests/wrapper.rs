@@ -75,7 +75,7 @@ fn the_header_has_the_limits() {
         .lines()
         .map(|line| line.split_whitespace().collect::<Vec<_>>().join(" "))
         .collect();
-    let products = grain_model::Rules::paper().products;
+    let products = grain_model::Rules::in_force().products;
     let names = [
         vec!["wheat protein"],
         vec!["corn protein", "corn oil", "corn starch"],

@@ -7,8 +7,8 @@ use crate::rules::Rules;
 use crate::sheet::{self, Outcome};
 use crate::station::{PastSet, Phase};
 
-/// An accepted sheet or repair: "each with its day, a sheet also with line, S, N, change and
-/// whether it met every average due".
+/// An accepted sheet or repair: each with its day, a sheet also with line, S, N, change and
+/// whether it met every average due.
 #[derive(Clone, Copy, Debug)]
 enum Entry {
     Sheet {
@@ -20,8 +20,8 @@ enum Entry {
     Repair,
 }
 
-/// "It holds the row, the day of the last accepted call (first 0) and all accepted sheets and
-/// repairs in order".
+/// It holds the row, the day of the last accepted call (first 0) and all accepted sheets and
+/// repairs in order.
 #[derive(Clone, Debug)]
 pub struct Book {
     row: i64,
@@ -47,7 +47,7 @@ impl Book {
         })
     }
 
-    /// "A line's intercept is the sum of its sheets' changes."
+    /// A line's intercept is the sum of its sheets' changes.
     pub fn intercept(&self, line: usize) -> i64 {
         let change = |entry: &Entry| match entry {
             Entry::Sheet { change, .. } => *change,
@@ -56,8 +56,8 @@ impl Book {
         self.touching(line).map(change).sum()
     }
 
-    /// "It is open if the newest sheet or repair touching it is a sheet that met, check due if its
-    /// newest sheet didn't meet, else new."
+    /// It is open if the newest sheet or repair touching it is a sheet that met, check due if its
+    /// newest sheet didn't meet, else new.
     pub fn phase(&self, line: usize) -> Phase {
         if let Some(Entry::Sheet { met: true, .. }) = self.touching(line).next() {
             return Phase::Open;
@@ -69,8 +69,8 @@ impl Book {
         }
     }
 
-    /// "Its past sets are its sheets later than its last repair and its last sheet that didn't
-    /// meet", newest first.
+    /// Its past sets are its sheets later than its last repair and its last sheet that didn't
+    /// meet, newest first.
     pub fn past(&self, line: usize) -> Vec<PastSet> {
         let met = |entry: &Entry| match entry {
             Entry::Sheet { set, met: true, .. } => Some(*set),

@@ -18,7 +18,7 @@ pub const BLANK: ChartSet = ChartSet {
     range: 0,
 };
 
-/// A chart: its row, its last week and its held sets, "at most four", newest first. Of the four
+/// A chart: its row, its last week and its held sets, at most four, newest first. Of the four
 /// places the first `held` are its sets, the others are spare.
 #[derive(Clone, Copy, Debug, PartialEq, Eq)]
 pub struct Chart {
@@ -28,8 +28,8 @@ pub struct Chart {
     pub sets: [ChartSet; 4],
 }
 
-/// "Fields: week, count, sum of differences, range, then 1 or 0 for average absolute, tolerance,
-/// run, range absolute, range tolerance", and the length of the line.
+/// Fields: week, count, sum of differences, range, then 1 or 0 for average absolute, tolerance,
+/// run, range absolute, range tolerance, and the length of the line.
 #[derive(Clone, Copy, Debug, PartialEq, Eq)]
 pub struct ChartValues {
     pub week: i64,
@@ -45,8 +45,8 @@ pub struct ChartValues {
 }
 
 impl ChartSet {
-    /// "A set's average is the exact sum of original minus monitor over the count. Range is largest
-    /// minus smallest difference." For numbers in pairs.
+    /// A set's average is the exact sum of original minus monitor over the count. Range is largest
+    /// minus smallest difference. For numbers in pairs.
     pub fn of(numbers: &[i32]) -> ChartSet {
         let difference = |pair: &[i32]| i64::from(pair[0]) - i64::from(pair[1]);
         let differences = || numbers.chunks_exact(2).map(difference);
@@ -75,13 +75,13 @@ impl ChartSet {
     }
 }
 
-/// "Absolute: magnitude equal to or above the limit."
+/// Absolute: magnitude equal to or above the limit.
 fn absolute(row: &ChartRow, set: &ChartSet) -> bool {
     set.at_or_above(row.absolute) || set.at_or_below(-row.absolute)
 }
 
-/// "Tolerance: this set and the one before both at or above the upper line, or both at or below the
-/// lower".
+/// Tolerance: this set and the one before both at or above the upper line, or both at or below the
+/// lower.
 fn tolerance(row: &ChartRow, set: &ChartSet, before: &[ChartSet]) -> bool {
     before.first().is_some_and(|before| {
         let two = [set, before];
@@ -90,15 +90,15 @@ fn tolerance(row: &ChartRow, set: &ChartSet, before: &[ChartSet]) -> bool {
     })
 }
 
-/// "For range, both at or above."
+/// For range, both at or above.
 fn range_tolerance(row: &ChartRow, set: &ChartSet, before: &[ChartSet]) -> bool {
     before.first().is_some_and(|before| {
         set.range >= row.range_tolerance && before.range >= row.range_tolerance
     })
 }
 
-/// "This set and three .. lie strictly on one side of zero, and the magnitude of the mean of those
-/// four averages is above the limit": sixty times the sum against 60 · 4 times the limit.
+/// This set and three .. lie strictly on one side of zero, and the magnitude of the mean of those
+/// four averages is above the limit: sixty times the sum against 60 · 4 times the limit.
 fn runs(row: &ChartRow, four: [&ChartSet; 4]) -> bool {
     let above = four.iter().all(|set| set.sum > 0);
     let below = four.iter().all(|set| set.sum < 0);
@@ -106,8 +106,8 @@ fn runs(row: &ChartRow, four: [&ChartSet; 4]) -> bool {
     (above || below) && sum.abs() > 60 * 4 * row.run
 }
 
-/// "Run: this set and three of the previous four (or of all, if fewer) ..; any such choice
-/// suffices."
+/// Run: this set and three of the previous four (or of all, if fewer) ..; any such choice
+/// suffices.
 fn run(row: &ChartRow, set: &ChartSet, before: &[ChartSet]) -> bool {
     match before {
         [a, b, c] => runs(row, [set, a, b, c]),
@@ -152,7 +152,7 @@ impl Writer<'_> {
 }
 
 impl ChartValues {
-    /// The fields, single spaces between them, "line feed included". Gives the length.
+    /// The fields, single spaces between them, line feed included. Gives the length.
     fn write(&self, buffer: &mut [u8]) -> usize {
         let mut writer = Writer { buffer, length: 0 };
         for number in [self.week, self.count, self.sum, self.range] {
@@ -175,7 +175,7 @@ impl ChartValues {
 }
 
 impl Chart {
-    /// "A fresh chart has last week 0."
+    /// A fresh chart has last week 0.
     pub const fn fresh(row: i64) -> Chart {
         Chart {
             row,
@@ -185,8 +185,8 @@ impl Chart {
         }
     }
 
-    /// Number 1: "Opening: the product or chart row doesn't exist." "A refused opening hands back a
-    /// fresh state of row 0."
+    /// Number 1: Opening: the product or chart row doesn't exist. A refused opening hands back a
+    /// fresh state of row 0.
     pub fn open(rules: &Rules, row: u64) -> (Chart, Result<(), Refusal>) {
         match i64::try_from(row) {
             Ok(row) if rules.chart(row).is_some() => (Chart::fresh(row), Ok(())),
@@ -199,8 +199,8 @@ impl Chart {
         &self.sets[..self.held as usize]
     }
 
-    /// "A chart is sound if its row exists, its last week is 0..9999, and its held sets, at most
-    /// four, have count 1 to 5, |sum| at most 10000 times the count and range 0..20000."
+    /// A chart is sound if its row exists, its last week is 0..9999, and its held sets, at most
+    /// four, have count 1 to 5, |sum| at most 10000 times the count and range 0..20000.
     pub fn sound(&self, rules: &Rules) -> bool {
         rules.chart(self.row).is_some()
             && (0..=rules.last_week).contains(&self.last_week)
@@ -217,12 +217,12 @@ impl Chart {
         if !self.sound(rules) {
             return Some(0);
         }
-        // 19: "The week isn't above the chart's last week or is above 9999".
+        // 19: The week isn't above the chart's last week or is above 9999.
         let week = i64::from(week);
         if week <= self.last_week || week > rules.last_week {
             return Some(19);
         }
-        // 20: "A set has no pair, more than five, or an odd count of numbers."
+        // 20: A set has no pair, more than five, or an odd count of numbers.
         let count = numbers.len() as i64;
         if count == 0 || count > 2 * rules.pairs || count % 2 != 0 {
             return Some(20);
@@ -234,8 +234,8 @@ impl Chart {
         ((buffer.len() as i64) < rules.line_bytes).then_some(22)
     }
 
-    /// "The call that charts one set (chart, week, pairs, buffer) and writes its output line writes
-    /// it from the buffer's start, line feed included, gives its length and touches no later byte."
+    /// The call that charts one set (chart, week, pairs, buffer) and writes its output line writes
+    /// it from the buffer's start, line feed included, gives its length and touches no later byte.
     pub fn set(
         &mut self,
         rules: &Rules,

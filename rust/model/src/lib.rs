@@ -1,7 +1,7 @@
-//! Paper 01 written plainly, to compare the measuring core with.
+//! The rules of docs/SPECIFICATION.md written plainly, to compare the measuring core with.
 //!
 //! Whole numbers only: a float enters by its bits, every distance is stated with its denominators
-//! multiplied out. A refusal is the paper's number. Each item cites the sentence it stands for.
+//! multiplied out. A refusal is its number. Each item says the rule it stands for.
 //! Quantities are whole hundredths of a percent unless tenths are named.
 
 pub mod book;
@@ -24,5 +24,5 @@ pub use sheet::{Judged, Outcome};
 pub use station::{Line, PastSet, Phase, Station};
 pub use text::TextRefusal;
 
-/// "A refused call answers the number."
+/// A refused call answers the number.
 pub type Refusal = u8;

@@ -16,24 +16,24 @@ pub enum Test {
 /// What a sheet did to its line.
 #[derive(Clone, Copy, Debug, PartialEq, Eq)]
 pub enum Verdict {
-    /// "N = 0: the line is shut."
+    /// N = 0: the line is shut.
     NothingKept,
     /// No test made of it, or the check, was exceeded.
     Met,
     /// The first test exceeded, and the change of the intercept.
     Adjusted(Test, i64),
-    /// "If the intercept would leave −1000..1000 the line is shut instead."
+    /// If the intercept would leave −1000..1000 the line is shut instead.
     Bounded(Test),
 }
 
 impl Verdict {
-    /// "A sheet met every average due if N is above 0 and no test made of it, or the check, was
-    /// exceeded."
+    /// A sheet met every average due if N is above 0 and no test made of it, or the check, was
+    /// exceeded.
     pub fn met(self) -> bool {
         self == Verdict::Met
     }
 
-    /// "The intercept change (0 if none)".
+    /// The intercept change (0 if none).
     pub fn change(self) -> i64 {
         match self {
             Verdict::Adjusted(_, change) => change,
@@ -50,7 +50,7 @@ struct Sum {
 }
 
 impl Sum {
-    /// "By their summed S and N": this set with the newest `count` past sets.
+    /// By their summed S and N: this set with the newest `count` past sets.
     fn with(self, past: &[PastSet], count: usize) -> Sum {
         let newest = &past[..count];
         Sum {
@@ -64,28 +64,28 @@ impl Sum {
         self.s.abs() > limit * self.n
     }
 
-    /// "The average, rounded to a whole hundredth with halves away from zero".
+    /// The average, rounded to a whole hundredth with halves away from zero.
     fn average(self) -> i64 {
         let magnitude = (2 * self.s.abs() + self.n) / (2 * self.n);
         magnitude * self.s.signum()
     }
 }
 
-/// Phase new or open: "The first test exceeded adjusts by that test's average."
+/// Phase new or open: The first test exceeded adjusts by that test's average.
 fn first_exceeded(limits: &Limits, valid: &[PastSet], set: Sum) -> Option<(Test, Sum)> {
-    // "Test |S| against the one-set limit times N."
+    // Test |S| against the one-set limit times N.
     if set.exceeds(limits.one) {
         return Some((Test::One, set));
     }
-    // "If within, and one past set is valid, test the two sets together"
+    // If within, and one past set is valid, test the two sets together
     if !valid.is_empty() && set.with(valid, 1).exceeds(limits.two) {
         return Some((Test::Two, set.with(valid, 1)));
     }
-    // "with two valid, the three together."
+    // with two valid, the three together.
     if valid.len() >= 2 && set.with(valid, 2).exceeds(limits.three) {
         return Some((Test::Three, set.with(valid, 2)));
     }
-    // "With four valid and all five S above zero or all below, test the five."
+    // With four valid and all five S above zero or all below, test the five.
     if valid.len() >= 4 {
         let past = &valid[..4];
         let above = set.s > 0 && past.iter().all(|set| set.s > 0);
@@ -111,10 +111,10 @@ pub fn verdict(
     }
     let sum = Sum { s: set.s, n: set.n };
     let exceeded = match phase {
-        // "|S| at most the check limit times N opens the line"
+        // |S| at most the check limit times N opens the line
         Phase::CheckDue => sum.exceeds(limits.check).then_some((Test::Check, sum)),
         Phase::New | Phase::Open => {
-            // "Past sets more than 14 days old are ignored." Days never rise from newest to oldest.
+            // Past sets more than 14 days old are ignored. Days never rise from newest to oldest.
             let young = |past: &&PastSet| set.day - past.day <= rules.past_days;
             let count = past.iter().take_while(young).count();
             first_exceeded(limits, &past[..count], sum)
@@ -122,7 +122,7 @@ pub fn verdict(
     };
     match exceeded {
         None => Verdict::Met,
-        // "To adjust: subtract the average .. from the intercept."
+        // To adjust: subtract the average .. from the intercept.
         Some((test, sum)) => {
             let change = -sum.average();
             if (intercept + change).abs() > rules.intercept {
@@ -137,8 +137,8 @@ pub fn verdict(
 /// The line after the verdict on this set.
 pub fn follow(line: &mut Line, verdict: Verdict, set: PastSet) {
     match verdict {
-        // "Opens the line with this set as its only past"; new and open: "the line is open and the
-        // set joins the past".
+        // Opens the line with this set as its only past; new and open: the line is open and the
+        // set joins the past.
         Verdict::Met => {
             if line.phase() == Phase::CheckDue {
                 line.empty();
@@ -146,7 +146,7 @@ pub fn follow(line: &mut Line, verdict: Verdict, set: PastSet) {
             line.phase = Phase::Open.code();
             line.join(set);
         }
-        // "Past sets go and the phase is check due."
+        // Past sets go and the phase is check due.
         Verdict::NothingKept | Verdict::Adjusted(..) | Verdict::Bounded(_) => {
             line.intercept += verdict.change();
             line.phase = Phase::CheckDue.code();

@@ -5,8 +5,8 @@ use crate::reading::reading;
 use crate::rules::{Product, Rules};
 use crate::station::{PastSet, Phase, Station};
 
-/// "A scan is what the analyser answered: a wheat value, a corn set of protein, oil and starch, or
-/// a fault code (0 to 255)." The floats stand as their bits.
+/// A scan is what the analyser answered: a wheat value, a corn set of protein, oil and starch, or
+/// a fault code (0 to 255). The floats stand as their bits.
 #[derive(Clone, Copy, Debug, PartialEq, Eq)]
 pub enum Scan {
     Wheat(u32),
@@ -14,7 +14,7 @@ pub enum Scan {
     Fault,
 }
 
-/// "Basis B: standard, dry (0), specified, or as-is with the official moisture."
+/// Basis B: standard, dry (0), specified, or as-is with the official moisture.
 #[derive(Clone, Copy, Debug, PartialEq, Eq)]
 pub enum Basis {
     Standard,
@@ -25,8 +25,8 @@ pub enum Basis {
     Unknown,
 }
 
-/// "The certificate carries the day of the line's newest set, the intercept, B and two figures in
-/// tenths".
+/// The certificate carries the day of the line's newest set, the intercept, B and two figures in
+/// tenths.
 #[derive(Clone, Copy, Debug, PartialEq, Eq)]
 pub struct Certificate {
     pub set_day: i64,
@@ -36,7 +36,7 @@ pub struct Certificate {
     pub at_basis: i64,
 }
 
-/// The float of the asked line. 8: "The scan is a fault or another grain's."
+/// The float of the asked line. 8: The scan is a fault or another grain's.
 fn asked(row: i64, line: usize, scan: Scan) -> Result<u32, Refusal> {
     match (row, scan) {
         (0, Scan::Wheat(protein)) => Ok(protein),
@@ -45,7 +45,7 @@ fn asked(row: i64, line: usize, scan: Scan) -> Result<u32, Refusal> {
     }
 }
 
-/// B in whole hundredths. 10: "B lies outside 0..5000"; so does the B of no kind.
+/// B in whole hundredths. 10: B lies outside 0..5000; so does the B of no kind.
 fn hundredths(rules: &Rules, product: &Product, basis: Basis) -> Result<i64, Refusal> {
     let b = match basis {
         Basis::Standard => product.standard,
@@ -59,7 +59,7 @@ fn hundredths(rules: &Rules, product: &Product, basis: Basis) -> Result<i64, Ref
     Ok(b)
 }
 
-/// "Rounded once to the nearest tenth, halves up": `above` over `below` hundredths, both positive
+/// Rounded once to the nearest tenth, halves up: `above` over `below` hundredths, both positive
 /// or `above` zero, as the floor of a tenth of it plus one half.
 fn tenths(above: i64, below: i64) -> i64 {
     (2 * above + 10 * below) / (20 * below)
@@ -86,12 +86,12 @@ pub fn certify(
     let float = asked(request.row, request.line, scan)?;
     let reading = reading(float)?;
     let b = hundredths(rules, request.product, basis)?;
-    // "The corrected value h is reading plus intercept."
+    // The corrected value h is reading plus intercept.
     let h = reading + request.intercept;
     if !(0..=rules.corrected).contains(&h) {
         return Err(11);
     }
-    // 12: "The line isn't open."
+    // 12: The line isn't open.
     let newest = match (request.phase, request.newest) {
         (Phase::Open, Some(newest)) => newest,
         _ => return Err(12),
@@ -99,7 +99,7 @@ pub fn certify(
     if request.day - newest.day > rules.newest_days {
         return Err(13);
     }
-    // "h times (10000 − B)/(10000 − A)"; 14 looks at the value before rounding.
+    // h times (10000 − B)/(10000 − A); 14 looks at the value before rounding.
     let above = h * (10_000 - b);
     let below = 10_000 - request.product.standard;
     if above > rules.at_basis * below {

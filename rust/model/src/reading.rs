@@ -8,9 +8,9 @@ const INFINITY: u32 = 0x7F80_0000;
 /// The bits of 100. Floats that are not negative are ordered as their bits are.
 const HUNDRED: u32 = 0x42C8_0000;
 
-/// "A reading is the whole hundredth nearest to 100 times the float's exact value, an exact half
-/// going up. Minus zero is zero." Number 9: "The line's float is not a number, below zero or above
-/// 100."
+/// A reading is the whole hundredth nearest to 100 times the float's exact value, an exact half
+/// going up. Minus zero is zero. Number 9: The line's float is not a number, below zero or above
+/// 100.
 pub fn reading(bits: u32) -> Result<i64, Refusal> {
     let size = bits & !SIGN;
     let not_a_number = size > INFINITY;

@@ -1,11 +1,11 @@
-//! The numbers of paper 01 that its rules compare with (sections "Product rows", "Control charts",
+//! The numbers that the rules compare with (sections "Product rows", "Control charts",
 //! "Refused calls"). They are passed to every rule, so that a comparison can show that it notices
 //! each of them being off by one.
 
 use crate::Refusal;
 
-/// "Per line: pair limit, sample limit, range limit; averages for one, two, three, five sets;
-/// check limit."
+/// Per line: pair limit, sample limit, range limit; averages for one, two, three, five sets;
+/// check limit.
 #[derive(Clone, Debug)]
 pub struct Limits {
     pub pair: i64,
@@ -26,7 +26,7 @@ pub struct Product {
     pub lines: Vec<Limits>,
 }
 
-/// "Rows: average absolute, tolerance, run; range absolute, tolerance."
+/// Rows: average absolute, tolerance, run; range absolute, tolerance.
 #[derive(Clone, Debug)]
 pub struct ChartRow {
     pub absolute: i64,
@@ -40,52 +40,52 @@ pub struct ChartRow {
 pub struct Rules {
     pub products: Vec<Product>,
     pub charts: Vec<ChartRow>,
-    /// "Its day is 0..99999"; number 2.
+    /// Its day is 0..99999; number 2.
     pub last_day: i64,
-    /// "Past sets more than 14 days old are ignored."
+    /// Past sets more than 14 days old are ignored.
     pub past_days: i64,
-    /// Number 13: "The line's newest set is more than 7 days old".
+    /// Number 13: The line's newest set is more than 7 days old.
     pub newest_days: i64,
-    /// "Intercepts lie in −1000..1000".
+    /// Intercepts lie in −1000..1000.
     pub intercept: i64,
-    /// "|S| is at most 11000 times N".
+    /// |S| is at most 11000 times N.
     pub set_average: i64,
-    /// Number 5: "A sheet number lies outside 0..10000".
+    /// Number 5: A sheet number lies outside 0..10000.
     pub sheet_number: i64,
-    /// Number 10: "B lies outside 0..5000."
+    /// Number 10: B lies outside 0..5000.
     pub basis: i64,
-    /// Number 11: "h lies outside 0..10000."
+    /// Number 11: h lies outside 0..10000.
     pub corrected: i64,
-    /// Number 14: "The unrounded value at B is above 10000."
+    /// Number 14: The unrounded value at B is above 10000.
     pub at_basis: i64,
-    /// "Its last week is 0..9999"; number 19.
+    /// Its last week is 0..9999; number 19.
     pub last_week: i64,
-    /// "A set has 1 to 5 pairs"; numbers 18 and 20.
+    /// A set has 1 to 5 pairs; numbers 18 and 20.
     pub pairs: i64,
-    /// "|sum| at most 10000 times the count".
+    /// |sum| at most 10000 times the count.
     pub chart_average: i64,
-    /// "Range 0..20000".
+    /// Range 0..20000.
     pub chart_range: i64,
-    /// Number 21: "A result lies outside 0..10000."
+    /// Number 21: A result lies outside 0..10000.
     pub chart_result: i64,
-    /// Number 15: "The text exceeds 65536 bytes."
+    /// Number 15: The text exceeds 65536 bytes.
     pub text_bytes: i64,
-    /// Number 22: "An output buffer for a line is shorter than 40 bytes."
+    /// Number 22: An output buffer for a line is shorter than 40 bytes.
     pub line_bytes: i64,
 }
 
 impl Rules {
-    /// The numbers as paper 01 gives them.
-    pub fn paper() -> Rules {
+    /// The numbers as the rules have them.
+    pub fn in_force() -> Rules {
         Rules {
             products: vec![
-                // "Row 0, wheat: 6 samples a sheet, standard basis A = 1200, one line."
+                // Row 0, wheat: 6 samples a sheet, standard basis A = 1200, one line.
                 Product {
                     samples: 6,
                     standard: 1200,
                     lines: vec![limits([30, 40, 50], [10, 7, 5, 3], 5)],
                 },
-                // "Row 1, corn: 4 samples, A = 0": protein, oil, starch.
+                // Row 1, corn: 4 samples, A = 0: protein, oil, starch.
                 Product {
                     samples: 4,
                     standard: 0,
@@ -126,7 +126,7 @@ impl Rules {
         self.products.get(usize::try_from(row).ok()?)
     }
 
-    /// Number 2: "The day is below the station's day or above 99999."
+    /// Number 2: The day is below the station's day or above 99999.
     pub(crate) fn day(&self, last: i64, day: u32) -> Result<i64, Refusal> {
         let day = i64::from(day);
         if day < last || day > self.last_day {
@@ -135,7 +135,7 @@ impl Rules {
         Ok(day)
     }
 
-    /// The row and the asked line. Number 3: "The grain doesn't have that line."
+    /// The row and the asked line. Number 3: The grain doesn't have that line.
     pub(crate) fn asked(&self, row: i64, line: u64) -> Result<(&Product, usize), Refusal> {
         let product = self.product(row).ok_or(0)?;
         let line = usize::try_from(line).map_err(|_| 3)?;

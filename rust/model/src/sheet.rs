@@ -5,12 +5,12 @@ use crate::line::{self, Verdict};
 use crate::rules::{Limits, Rules};
 use crate::station::{PastSet, Phase, Station};
 
-/// "Six numbers a sample".
+/// Six numbers a sample.
 pub const NUMBERS: usize = 6;
 /// Room for the samples of any row.
 const MOST_SAMPLES: usize = 8;
 
-/// "An outcome carries S, N, the phase after it and the intercept change (0 if none)."
+/// An outcome carries S, N, the phase after it and the intercept change (0 if none).
 #[derive(Clone, Copy, Debug, PartialEq, Eq)]
 pub struct Outcome {
     pub s: i64,
@@ -29,8 +29,8 @@ pub struct Sums {
 }
 
 impl Sums {
-    /// "Its deviation is worked out anew from that pair, without a pair test. A sample still
-    /// deviating is dropped." "S is the sum of the kept deviations and N is twice the number kept."
+    /// Its deviation is worked out anew from that pair, without a pair test. A sample still
+    /// deviating is dropped. S is the sum of the kept deviations and N is twice the number kept.
     fn add(&mut self, limits: &Limits, deviation: i64, anew: Option<i64>) {
         self.again += usize::from(anew.is_some());
         if anew.is_some_and(|anew| deviates(limits, anew)) {
@@ -51,8 +51,8 @@ pub struct Judged {
     pub dropped: usize,
 }
 
-/// "Baseline, first, second, third, again-first, again-second. −1 stands for 'not measured', in the
-/// last three only."
+/// Baseline, first, second, third, again-first, again-second. −1 stands for 'not measured', in the
+/// last three only.
 #[derive(Clone, Copy, Debug, Default, PartialEq, Eq)]
 pub struct Sample {
     pub baseline: i64,
@@ -63,8 +63,8 @@ pub struct Sample {
 }
 
 impl Sample {
-    /// Number 5: "A sheet number lies outside 0..10000 (−1 where allowed), or half an again pair is
-    /// −1."
+    /// Number 5: A sheet number lies outside 0..10000 (−1 where allowed), or half an again pair is
+    /// −1.
     pub fn read(rules: &Rules, numbers: &[i32]) -> Result<Sample, Refusal> {
         let number = |place: usize| {
             let number = i64::from(numbers[place]);
@@ -88,13 +88,13 @@ impl Sample {
         })
     }
 
-    /// "If first and second differ by more than the pair limit, a third is due."
+    /// If first and second differ by more than the pair limit, a third is due.
     pub fn third_due(&self, limits: &Limits) -> bool {
         (self.first - self.second).abs() > limits.pair
     }
 
-    /// "The pair used is the closest of first-second, first-third, second-third; among equals the
-    /// earlier named." Without a third it is first-second.
+    /// The pair used is the closest of first-second, first-third, second-third; among equals the
+    /// earlier named. Without a third it is first-second.
     pub fn pair(&self) -> [i64; 2] {
         let mut used = [self.first, self.second];
         if let Some(third) = self.third {
@@ -107,8 +107,8 @@ impl Sample {
         used
     }
 
-    /// "A sample's deviation is the used pair's sum plus twice the intercept minus twice the
-    /// baseline."
+    /// A sample's deviation is the used pair's sum plus twice the intercept minus twice the
+    /// baseline.
     pub fn deviation(&self, pair: [i64; 2], intercept: i64) -> i64 {
         pair[0] + pair[1] + 2 * intercept - 2 * self.baseline
     }
@@ -118,7 +118,7 @@ fn spread([one, other]: [i64; 2]) -> i64 {
     (one - other).abs()
 }
 
-/// "It deviates if the magnitude is above twice the sample limit."
+/// It deviates if the magnitude is above twice the sample limit.
 fn deviates(limits: &Limits, deviation: i64) -> bool {
     deviation.abs() > 2 * limits.sample
 }
@@ -131,7 +131,7 @@ pub fn sums(
     intercept: i64,
     numbers: &[i32],
 ) -> Result<Sums, Refusal> {
-    // 4: "The sheet isn't six numbers for each sample of its row."
+    // 4: The sheet isn't six numbers for each sample of its row.
     if numbers.len() as i64 != NUMBERS as i64 * samples {
         return Err(4);
     }
@@ -140,7 +140,7 @@ pub fn sums(
     for (sample, numbers) in samples.iter_mut().zip(numbers.chunks_exact(NUMBERS)) {
         *sample = Sample::read(rules, numbers)?;
     }
-    // 6: "A third is missing where due or present where not."
+    // 6: A third is missing where due or present where not.
     let wrong_third = |sample: &Sample| sample.third.is_some() != sample.third_due(limits);
     if samples.iter().any(wrong_third) {
         return Err(6);
@@ -158,7 +158,7 @@ fn again_pairs(limits: &Limits, intercept: i64, samples: &[Sample]) -> Result<Su
     let again_due = again_due(limits, deviations);
     let mut sums = Sums::default();
     for (sample, &deviation) in samples.iter().zip(&*deviations) {
-        // 7: "An again pair is missing where due or present where not."
+        // 7: An again pair is missing where due or present where not.
         let due = again_due && deviates(limits, deviation);
         if sample.again.is_some() != due {
             return Err(7);
@@ -169,8 +169,8 @@ fn again_pairs(limits: &Limits, intercept: i64, samples: &[Sample]) -> Result<Su
     Ok(sums)
 }
 
-/// "If some sample deviates and the largest minus the smallest deviation is above twice the range
-/// limit, an again pair is due for each deviating sample."
+/// If some sample deviates and the largest minus the smallest deviation is above twice the range
+/// limit, an again pair is due for each deviating sample.
 fn again_due(limits: &Limits, deviations: &[i64]) -> bool {
     let some_deviates = deviations.iter().any(|&one| deviates(limits, one));
     let largest = deviations.iter().max().unwrap_or(&0);

@@ -3,7 +3,7 @@
 
 use crate::{Refusal, Rules};
 
-/// "A phase (new, open, check due)".
+/// A phase (new, open, check due).
 #[derive(Clone, Copy, Debug, PartialEq, Eq)]
 pub enum Phase {
     New,
@@ -32,7 +32,7 @@ impl Phase {
     }
 }
 
-/// A past set: "each with day, S and N".
+/// A past set: each with day, S and N.
 #[derive(Clone, Copy, Debug, PartialEq, Eq)]
 pub struct PastSet {
     pub day: i64,
@@ -43,7 +43,7 @@ pub struct PastSet {
 /// An emptied place holds a blank set.
 pub const BLANK: PastSet = PastSet { day: 0, s: 0, n: 0 };
 
-/// "A line has an intercept (fresh: 0), a phase and up to four past sets, newest first". Of the
+/// A line has an intercept (fresh: 0), a phase and up to four past sets, newest first. Of the
 /// four places the first `held` are its past sets, the others are spare. Every field may hold any
 /// number, the phase's code too: what a line may hold is told by `sound`.
 #[derive(Clone, Copy, Debug, PartialEq, Eq)]
@@ -54,7 +54,7 @@ pub struct Line {
     pub past: [PastSet; 4],
 }
 
-/// "A station holds its row, its lines and the day of its last accepted call (fresh: 0)." A grain
+/// A station holds its row, its lines and the day of its last accepted call (fresh: 0). A grain
 /// with fewer than three lines leaves the others spare.
 #[derive(Clone, Copy, Debug, PartialEq, Eq)]
 pub struct Station {
@@ -81,22 +81,22 @@ impl Line {
         &self.past[..self.held as usize]
     }
 
-    /// "Past sets go": every place holds a blank.
+    /// Past sets go: every place holds a blank.
     pub fn empty(&mut self) {
         self.held = 0;
         self.past = [BLANK; 4];
     }
 
-    /// "The set joins the past, only the newest four being held." Every place moves on by one, the
+    /// The set joins the past, only the newest four being held. Every place moves on by one, the
     /// spare ones too.
     pub fn join(&mut self, set: PastSet) {
         self.past = [set, self.past[0], self.past[1], self.past[2]];
         self.held = (self.held + 1).min(4);
     }
 
-    /// "Intercepts lie in −1000..1000, an open line has one to four past sets and any other none,
+    /// Intercepts lie in −1000..1000, an open line has one to four past sets and any other none,
     /// their days never rise from newest to oldest nor pass the station's day, N is even from 2 to
-    /// twice the row's samples, and |S| is at most 11000 times N."
+    /// twice the row's samples, and |S| is at most 11000 times N.
     /// A code that stands for no phase and a day below 0 are no phase and no day.
     fn sound(&self, rules: &Rules, samples: i64, day: i64) -> bool {
         let held_fits = match Phase::of(self.phase) {
@@ -126,8 +126,8 @@ impl Station {
         }
     }
 
-    /// Number 1: "Opening: the product or chart row doesn't exist." "A refused opening hands back a
-    /// fresh state of row 0."
+    /// Number 1: Opening: the product or chart row doesn't exist. A refused opening hands back a
+    /// fresh state of row 0.
     pub fn open(rules: &Rules, row: u64) -> (Station, Result<(), Refusal>) {
         match i64::try_from(row) {
             Ok(row) if rules.product(row).is_some() => (Station::fresh(row), Ok(())),
@@ -135,7 +135,7 @@ impl Station {
         }
     }
 
-    /// "A station is sound if its row exists, its day is 0..99999" and its row's lines are sound.
+    /// A station is sound if its row exists, its day is 0..99999 and its row's lines are sound.
     /// Spare lines and places are not looked at.
     pub fn sound(&self, rules: &Rules) -> bool {
         let Some(product) = rules.product(self.row) else {
@@ -148,7 +148,7 @@ impl Station {
                 .all(|line| line.sound(rules, product.samples, self.day))
     }
 
-    /// Number 0: "The station or chart handed in isn't sound." Then number 2.
+    /// Number 0: The station or chart handed in isn't sound. Then number 2.
     pub(crate) fn called_on(&self, rules: &Rules, day: u32) -> Result<i64, Refusal> {
         if !self.sound(rules) {
             return Err(0);
@@ -156,8 +156,8 @@ impl Station {
         rules.day(self.day, day)
     }
 
-    /// "A repair (or new slope), which names its day and touches all lines, empties every line's
-    /// past. New and open lines become new; check due stays. Intercepts stay."
+    /// A repair (or new slope), which names its day and touches all lines, empties every line's
+    /// past. New and open lines become new; check due stays. Intercepts stay.
     pub fn repair(&mut self, rules: &Rules, day: u32) -> Result<(), Refusal> {
         let day = self.called_on(rules, day)?;
         // Every line's past is emptied, also that of lines that the grain lacks. Their phase may be

@@ -4,7 +4,7 @@ use crate::Refusal;
 use crate::chart::Chart;
 use crate::rules::Rules;
 
-/// "Names line `week sample original monitor`", with its line feed.
+/// Names line `week sample original monitor`, with its line feed.
 pub const INPUT_NAMES: &[u8] = b"week sample original monitor\n";
 /// The names line of the output.
 pub const OUTPUT_NAMES: &[u8] = b"week n sum range al tl run ral rtl\n";
@@ -32,7 +32,7 @@ struct Sets {
     numbers: Vec<i32>,
 }
 
-/// A decimal at the start and what follows it: "unsigned decimals .., no leading zeros", of at most
+/// A decimal at the start and what follows it: unsigned decimals .., no leading zeros, of at most
 /// five digits (17).
 fn decimal(text: &[u8]) -> Option<(i64, &[u8])> {
     let digits = text.iter().take_while(|byte| byte.is_ascii_digit()).count();
@@ -47,7 +47,7 @@ fn decimal(text: &[u8]) -> Option<(i64, &[u8])> {
     Some((value, rest))
 }
 
-/// "Four unsigned decimals a line, .. single spaces, each line ended by a line feed": the line at
+/// Four unsigned decimals a line, .. single spaces, each line ended by a line feed: the line at
 /// the start and the text after it. None is number 17.
 fn value_line(text: &[u8]) -> Option<(Entry, &[u8])> {
     let (week, text) = decimal(text)?;
@@ -65,8 +65,8 @@ fn value_line(text: &[u8]) -> Option<(Entry, &[u8])> {
 
 /// Numbers 18, 19 and 21 of a value line after the line before it (none: the first).
 fn refused(rules: &Rules, before: Option<Entry>, entry: Entry) -> Option<Refusal> {
-    // 18: "A line either has the week before it and the next sample number up to 5, or another week
-    // and sample 1."
+    // 18: A line either has the week before it and the next sample number up to 5, or another week
+    // and sample 1.
     let same_week = before.filter(|before| before.week == entry.week);
     let in_turn = match same_week {
         Some(before) => entry.sample == before.sample + 1 && entry.sample <= rules.pairs,
@@ -75,7 +75,7 @@ fn refused(rules: &Rules, before: Option<Entry>, entry: Entry) -> Option<Refusal
     if !in_turn {
         return Some(18);
     }
-    // 19: "The week isn't above the chart's last week or is above 9999 (in text: a starting week)."
+    // 19: The week isn't above the chart's last week or is above 9999 (in text: a starting week).
     let last_week = before.map_or(0, |before| before.week);
     if same_week.is_none() && (entry.week <= last_week || entry.week > rules.last_week) {
         return Some(19);
@@ -84,7 +84,7 @@ fn refused(rules: &Rules, before: Option<Entry>, entry: Entry) -> Option<Refusal
     (!result.contains(&entry.original) || !result.contains(&entry.monitor)).then_some(21)
 }
 
-/// "Text lines are judged in turn."
+/// Text lines are judged in turn.
 fn judge(rules: &Rules, text: &[u8]) -> Result<Sets, TextRefusal> {
     let refusal = |number, line| Err(TextRefusal { number, line });
     if text.len() as i64 > rules.text_bytes {
@@ -131,7 +131,7 @@ pub fn chart_text(rules: &Rules, text: &[u8], out: &mut [u8]) -> Result<usize, T
     out[..OUTPUT_NAMES.len()].copy_from_slice(OUTPUT_NAMES);
     let mut length = OUTPUT_NAMES.len();
     let mut start = 0;
-    // "It prints wheat".
+    // It prints wheat.
     let mut chart = Chart::fresh(0);
     for &(week, end) in &sets.weeks {
         let numbers = &sets.numbers[start..end];
@@ -143,8 +143,8 @@ pub fn chart_text(rules: &Rules, text: &[u8], out: &mut [u8]) -> Result<usize, T
     Ok(length)
 }
 
-/// What the chart program prints. "On refusal it prints only one line: `refused`, the number and
-/// the text line, single spaces, a line feed."
+/// What the chart program prints. On refusal it prints only one line: `refused`, the number and
+/// the text line, single spaces, a line feed.
 pub fn program(rules: &Rules, text: &[u8]) -> Vec<u8> {
     let lines = text.iter().filter(|&&byte| byte == b'\n').count();
     let mut out = vec![0; (lines + 1) * rules.line_bytes as usize];

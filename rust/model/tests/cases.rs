@@ -1,4 +1,4 @@
-//! The model on paper 01's "Cases beside the edges", the example of week 26 and the readings of
+//! The model on the cases at the edges of the rules, the example of week 26 and the readings of
 //! sentences that admit two.
 
 use grain_model::rules::Limits;
@@ -13,7 +13,7 @@ const NAMES: &str = "week sample original monitor\n";
 const OUT_NAMES: &str = "week n sum range al tl run ral rtl\n";
 
 fn wheat() -> Limits {
-    Rules::paper().products[0].lines[0].clone()
+    Rules::in_force().products[0].lines[0].clone()
 }
 
 /// A sample measured twice whose deviation is `deviation` at intercept 0.
@@ -57,7 +57,7 @@ fn station(phase: Phase, intercept: i64, day: i64, past: &[(i64, i64)]) -> Stati
 /// The verdict on a sheet with this S entered on this day.
 fn entered(mut station: Station, day: u32, s: i32) -> (Station, Verdict) {
     let numbers = wheat_sheet(s, station.lines[0].intercept as i32);
-    let judged = station.sheet(&Rules::paper(), day, 0, &numbers).unwrap();
+    let judged = station.sheet(&Rules::in_force(), day, 0, &numbers).unwrap();
     assert_eq!((judged.outcome.s, judged.outcome.n), (i64::from(s), 12));
     assert_eq!(judged.outcome.phase, station.lines[0].phase());
     (station, judged.verdict)
@@ -103,7 +103,7 @@ fn thirds_and_pairs() {
 
 #[test]
 fn again_pairs() {
-    let rules = Rules::paper();
+    let rules = Rules::in_force();
     let sums =
         |sheet: [[i32; 6]; 6]| grain_model::sheet::sums(&rules, 6, &wheat(), 0, &sheet.concat());
     let zero = twice(0);
@@ -249,7 +249,7 @@ fn shut_at_the_bound() {
 
 #[test]
 fn repairs() {
-    let rules = Rules::paper();
+    let rules = Rules::in_force();
     let mut open = station(Phase::Open, 12, 9, &[(9, 5), (8, 6)]);
     assert_eq!(open.repair(&rules, 8), Err(2));
     assert_eq!(open.repair(&rules, 10), Ok(()));
@@ -264,7 +264,7 @@ fn repairs() {
 /// code other than 0, 1, 2 no phase.
 #[test]
 fn stored_stations() {
-    let rules = Rules::paper();
+    let rules = Rules::in_force();
     let open = station(Phase::Open, 12, 9, &[(9, 5), (8, 6)]);
     let refused = |mut station: Station| station.repair(&rules, 9) == Err(0);
     assert!(!refused(open));
@@ -314,7 +314,7 @@ fn stored_stations() {
 
 #[test]
 fn market_figures() {
-    let rules = Rules::paper();
+    let rules = Rules::in_force();
     let open = station(Phase::Open, 0, 10, &[(10, 0)]);
     let asked = |mut station: Station, day, percent: f32, basis| {
         let scan = Scan::Wheat(percent.to_bits());
@@ -349,7 +349,7 @@ fn market_figures() {
 
 #[test]
 fn scans() {
-    let rules = Rules::paper();
+    let rules = Rules::in_force();
     let mut corn = Station::fresh(1);
     let nan = f32::NAN.to_bits();
     let scan = Scan::Corn([nan, 4_f32.to_bits(), nan]);
@@ -382,7 +382,7 @@ fn charted(sums: &[i32]) -> Vec<grain_model::ChartValues> {
         ];
         let week = week as u32 + 1;
         chart
-            .set(&Rules::paper(), week, &numbers.concat(), &mut buffer)
+            .set(&Rules::in_force(), week, &numbers.concat(), &mut buffer)
             .unwrap()
     };
     sums.iter().enumerate().map(&mut chart_one).collect()
@@ -408,7 +408,7 @@ fn charts() {
 
 #[test]
 fn chart_refusals() {
-    let rules = Rules::paper();
+    let rules = Rules::in_force();
     let mut chart = Chart::fresh(3);
     chart.last_week = 7;
     let mut set = |week, numbers: &[i32], bytes: usize| {
@@ -433,7 +433,7 @@ fn chart_refusals() {
 }
 
 fn printed(text: &str) -> String {
-    String::from_utf8(program(&Rules::paper(), text.as_bytes())).unwrap()
+    String::from_utf8(program(&Rules::in_force(), text.as_bytes())).unwrap()
 }
 
 #[test]
@@ -473,7 +473,7 @@ fn refused_texts() {
 
 #[test]
 fn a_text_needs_forty_bytes_a_line() {
-    let rules = Rules::paper();
+    let rules = Rules::in_force();
     let text = format!("{NAMES}1 1 0 0\n2 1 0 0\n");
     let charted = |bytes: usize| {
         let answer = grain_model::text::chart_text(&rules, text.as_bytes(), &mut vec![0; bytes]);
@@ -489,7 +489,7 @@ fn a_text_needs_forty_bytes_a_line() {
 /// Old sets are ignored by the tests but still held, and the book says the same.
 #[test]
 fn the_book_agrees() {
-    let rules = Rules::paper();
+    let rules = Rules::in_force();
     let mut book = Book::new(0);
     let mut station = Station::fresh(0);
     let entries = [

@@ -140,10 +140,10 @@ pub fn list(trial: &mut Trial, calls: usize) -> Result<(), Difference> {
 /// One set, mostly a good one.
 pub fn single(trial: &mut Trial, places: &mut ChartPlaces) -> Result<(), Difference> {
     let chart = match encode::chart(places) {
-        chart if chart.sound(&model::Rules::paper()) => chart,
+        chart if chart.sound(&model::Rules::in_force()) => chart,
         _ => Chart::fresh(0),
     };
-    let row = model::Rules::paper().charts[chart.row as usize].clone();
+    let row = model::Rules::in_force().charts[chart.row as usize].clone();
     let rng = &mut trial.rng;
     let week = a_week(rng, chart.last_week);
     let mut numbers = a_set(rng, &row, &chart);

@@ -1,4 +1,4 @@
-//! Damaged models: each number of the paper off by one.
+//! Damaged models: each number of the rules off by one.
 
 use grain_model::Rules;
 
@@ -55,9 +55,9 @@ pub fn numbers(rules: &mut Rules) -> Vec<(String, &mut i64)> {
     numbers
 }
 
-/// The paper's rules with the number at this place off by `by`, and its name. None past the end.
+/// The rules with the number at this place off by `by`, and its name. None past the end.
 pub fn rules(place: usize, by: i64) -> Option<(String, Rules)> {
-    let mut rules = Rules::paper();
+    let mut rules = Rules::in_force();
     let name = {
         let mut numbers = numbers(&mut rules);
         let (name, number) = numbers.get_mut(place)?;

@@ -98,7 +98,7 @@ pub fn openings(trial: &mut Trial) -> Result<(), Difference> {
 /// The station for the generator to look at; for one that isn't sound a fresh one.
 fn seen(subject: &Subject) -> Station {
     let station = encode::station(&subject.places);
-    match station.sound(&grain_model::Rules::paper()) {
+    match station.sound(&grain_model::Rules::in_force()) {
         true => station,
         false => Station::fresh(0),
     }
@@ -172,7 +172,7 @@ fn repair(trial: &mut Trial, subject: &mut Subject, ending: bool) -> Result<(), 
 
 /// The limits the generator aims at.
 fn limits_of(row: i64, line: u64) -> Limits {
-    let rules = grain_model::Rules::paper();
+    let rules = grain_model::Rules::in_force();
     let lines = &rules.products[row as usize].lines;
     let place = usize::try_from(line).unwrap_or(0);
     lines.get(place).unwrap_or(&lines[0]).clone()

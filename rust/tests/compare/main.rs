@@ -97,7 +97,7 @@ const SEED: u64 = 0x6772_6169_6E01;
 
 #[test]
 fn every_call_agrees() {
-    let mut rules = Rules::paper();
+    let mut rules = Rules::in_force();
     if let Ok(place) = env::var("GRAIN_DAMAGE") {
         let place: usize = place.parse().expect("GRAIN_DAMAGE is a number from 1");
         let (name, damaged) = damaged::rules(place - 1, 1).expect("no such number");
@@ -136,7 +136,7 @@ fn a_damaged_model_is_caught() {
     }
     say(&format!("damaged models caught: {caught}"));
     assert!(missed.is_empty(), "not noticed: {missed:?}");
-    assert!(compare(&mut Trial::new(Rules::paper(), SEED), &SMALL).is_ok());
+    assert!(compare(&mut Trial::new(Rules::in_force(), SEED), &SMALL).is_ok());
 }
 
 /// Every float there is, by the C interface. Takes minutes: `cargo test --release -- --ignored`.

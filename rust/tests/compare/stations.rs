@@ -78,7 +78,7 @@ impl Asked {
     }
 }
 
-/// A wrapper's refusal as the paper's number.
+/// A wrapper's refusal as its number.
 pub fn number<T>(answer: Result<T, grain::Refusal>) -> Result<T, u8> {
     answer.map_err(grain::Refusal::number)
 }
