@@ -88,6 +88,7 @@ pub record Says : Type 0 where
   pub number : Option ℕ
   pub values : List ℤ
 
+-- an opening has no values
 abbrev pub openSays : OpenAnswer → Says
 openSays Open.Opened = record { number = none; values = [] }
 openSays (Open.Refused r) = record { number = some (numberOf r); values = [] }

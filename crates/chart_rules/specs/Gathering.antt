@@ -15,6 +15,7 @@ pub record Gathered : Type 0 where
   pub week : ℕ
   pub numbers : List ℤ
 
+-- no set under way
 abbrev pub none : Gathered
 none = record { week = 0; numbers = [] }
 
@@ -30,6 +31,7 @@ finished s = cond (eqb (length (s .numbers)) 0) [] (s ∷ [])
 unfoldable pub closed : Gathered → ValueLine → List Gathered
 closed s v = cond (eqb (v .sample) 1) (finished s) []
 
+-- what is under way when the line comes: nothing before a sample 1, else the set so far
 unfoldable pub kept : Gathered → ValueLine → Gathered
 kept s v = cond (eqb (v .sample) 1) none s
 

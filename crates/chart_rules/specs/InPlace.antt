@@ -10,6 +10,8 @@ use Rattle.chart_rules.specs.declared.ChartAnswer.{ChartAnswer}
 use Rattle.chart_rules.specs.declared.ChartAnswer.the-variants.{Charted, Refused}
 
 -- ---- opening
+
+-- what an opening answers, and what stands in the places
 pub record OpenedIn : Type 0 where
   pub answer : OpenAnswer
   pub places : List ℤ
@@ -19,6 +21,8 @@ unfoldable pub openIn : ℕ → OpenedIn
 openIn row = record { answer = openOf row .answer; places = freshPlaces (openOf row .chart .row) }
 
 -- ---- one set
+
+-- what a call answers, and what stands in the places and in the buffer
 pub record ChartedIn : Type 0 where
   pub answer : ChartAnswer
   pub places : List ℤ

@@ -115,5 +115,6 @@ abbrev pub verdict : Ruling → ℕ → TextVerdict
 verdict R.Fine sets = Good sets
 verdict (R.Refused r line) sets = Refused r line
 
+-- a text's verdict: the first check that applies, or the count of its sets
 unfoldable pub judged : List ℕ → TextVerdict
 judged text = verdict (firstRuling (textChecks text)) (starts (valueLines text))

@@ -1,4 +1,4 @@
--- The rules of control charts, one file for each part: a chart and its calls; the calls on a chart that lies in its caller's places; then chart texts and what is printed of them; laws and cases.
+-- The rules of control charts, one file for each part: a chart and its calls; the calls on a chart that lies in its caller's places; then chart texts and what is printed of them; laws and cases; last what proofs need besides.
 pub mod Rows
 pub mod Sets
 pub mod Limits

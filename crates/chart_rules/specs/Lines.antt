@@ -13,7 +13,7 @@ use Rattle.chart_rules.specs.declared.ChartSet.{ChartSet}
 use Rattle.chart_rules.specs.declared.Chart.{Chart}
 use Rattle.chart_rules.specs.declared.Values.{Values}
 
--- week, count, sum of differences, range, then average absolute, tolerance, run, range absolute, range tolerance
+-- what the line says: week, count, sum of differences, range, then average absolute, tolerance, run, range absolute, range tolerance
 unfoldable pub valuesOf : Chart → ℕ → ChartSet → Values
 valuesOf c week s =
     let limits = limitsOf (c .row) in
@@ -43,5 +43,6 @@ line [] = lineFeed ∷ []
 line (x ∷ []) = showSigned x ++ (lineFeed ∷ [])
 line (x ∷ y ∷ rest) = showSigned x ++ (space ∷ line (y ∷ rest))
 
+-- a set's output line
 unfoldable pub lineOf : Values → List ℕ
 lineOf v = line (fields v)

@@ -35,6 +35,7 @@ chartAfter c (s ∷ sets) = chartAfter (resultOf c (s .week) (s .numbers) 40 .ch
 
 -- ---- a text's output
 
+-- the output's names line, its line feed included
 abbrev pub outputNames : List ℕ
 outputNames = bytes "week n sum range al tl run ral rtl\n"
 
@@ -65,6 +66,7 @@ abbrev pub answered : Ruling → ℕ → TextAnswer
 answered R.Fine length = Written length
 answered (R.Refused r line) length = Refused r line
 
+-- the answer of a text call whose buffer has this many bytes
 unfoldable pub answerOf : List ℕ → ℕ → TextAnswer
 answerOf text room = answered (firstRuling (callChecks text room)) (length (outputOf text))
 

@@ -30,6 +30,7 @@ pub record Printed : Type 0 where
   pub length : ℕ
   pub buffer : List ℕ
 
+-- the call: what is printed stands at the buffer's start, and no later byte is touched
 unfoldable pub printedOf : List ℕ → List ℕ → Printed
 printedOf text buffer =
     let out = printed text (length buffer) in

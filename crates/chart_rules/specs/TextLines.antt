@@ -15,6 +15,7 @@ use Rattle.chart_rules.specs.declared.LineRead.the-variants.{Values, Bad
 
 -- ---- the names line
 
+-- the names line, its line feed included
 abbrev pub namesLine : List ℕ
 namesLine = bytes "week sample original monitor\n"
 
