@@ -53,7 +53,7 @@ pub fn verdict_on(limits: Limits, l: Line, day: u32, set: Set) -> Verdict
     match line_averages::first_exceeded(limits, l.phase, set, k, past) {
         Found::Exceeded(t) => adjust(
             Int { z: l.intercept },
-            line_rounding::rounded(Int { z: t.sum }, t.count),
+            whole::rounded(Int { z: t.sum }, t.count),
         ),
         Found::Nothing => Verdict {
             change: 0,

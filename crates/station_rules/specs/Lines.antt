@@ -1,11 +1,12 @@
 -- docs/SPECIFICATION.md, "A line between sheets": the tests due of a set, the adjustment, and when a sheet met every average due.
-use Prim.Native.Nat.{ℕ, _+_, _*_, _/_}
+use Prim.Native.Nat.{ℕ, _+_, _*_}
 use mathlib.Core.Bool.{Bool, true, false, not, _&&_, _||_, cond}
 use mathlib.Core.List.{List, [], _∷_}
 use mathlib.Core.Option.{Option, none, some}
 use lib.Dec.{leb, ltb, eqb}
-use lib.IntN.{ℤ, pos, negsuc, negℤ, natAbs, _+ℤ_, _-ℤ_}
+use lib.IntN.{ℤ, pos, negℤ, natAbs, _+ℤ_, _-ℤ_}
 use Rattle.whole.specs.Lists.{any, above, below}
+use Rattle.whole.specs.Rounding.{roundedAway}
 use Rattle.station_rules.specs.Lists.{keep}
 use Rattle.station_rules.specs.declared.PastSet.{PastSet}
 use Rattle.station_rules.specs.declared.Verdict.{Verdict}
@@ -82,12 +83,8 @@ firstExceeded [] = none
 firstExceeded (t ∷ ts) = cond (exceeded t) (some t) (firstExceeded ts)
 
 -- a test's average, rounded to a whole hundredth with halves away from zero
-unfoldable pub roundedAverage : Test → ℤ
-roundedAverage t = away (t .sum) ((2 * natAbs (t .sum) + t .count) / (2 * t .count))
-  where
-    away : ℤ → ℕ → ℤ
-    away (pos n) r = pos r
-    away (negsuc n) r = negℤ (pos r)
+abbrev pub roundedAverage : Test → ℤ
+roundedAverage t = roundedAway (t .sum) (t .count)
 
 -- the line is shut: the intercept stays
 abbrev pub shut : Verdict

@@ -7,3 +7,4 @@ pub mod Read
 pub mod Elements
 pub mod Spelled
 pub mod Twelve
+pub mod RoundLaws

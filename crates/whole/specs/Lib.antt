@@ -1,4 +1,5 @@
 pub mod Parts
 pub mod Places
 pub mod Lists
+pub mod Rounding
 pub mod Three

@@ -6,9 +6,10 @@ ghost use Prim.Native.Nat.{_+_, _*_, _<_, _≤_};
 ghost use lib.IntN.{natAbs};
 ghost use lib.Dec.{leb};
 ghost use lib.Signed.{ltZ, leZ};
-ghost use Rattle.whole.specs.Parts.{up, down, Sum, Diff, Times, Minus, Natural};
+ghost use Rattle.whole.specs.Parts.{up, down, Within, Sum, Diff, Times, Minus, Natural};
 ghost use Rattle.whole.specs.Places.{natural as naturalOf};
 ghost use Rattle.whole.specs.Lists.{largerOf, smallerOf};
+ghost use Rattle.whole.specs.Rounding.{roundedAway};
 
 pub mod flags;
 pub mod held;
@@ -131,4 +132,17 @@ pub fn smaller(a: Int, b: Int) -> Int
     ensures { λ r. ⌜ r .z ≡ smallerOf (a .z) (b .z) ⌝ }
 {
     if at_most(a, b) { a } else { b }
+}
+
+// Dividend / divisor rounded to a whole number, halves away from zero.
+pub fn rounded(dividend: Int, divisor: u32) -> Int
+    requires { ⌜ (Within 100000000 100000000 (dividend .z)) × ((1 ≤ divisor) × (divisor ≤ 100000000)) ⌝ }
+    ensures { λ r. ⌜ (r .z ≡ roundedAway (dividend .z) divisor) × Within (2 * (up (dividend .z) + down (dividend .z)) + divisor) (2 * (up (dividend .z) + down (dividend .z)) + divisor) (r .z) ⌝ }
+{
+    let quotient = of_u32((2 * size(dividend) + divisor) / (2 * divisor));
+    if less(dividend, Int { z: 0 }) {
+        neg(quotient)
+    } else {
+        quotient
+    }
 }

@@ -2,13 +2,13 @@ use mathlib.Core.Path.{_∙_, sym, ap, ap₂, subst}
 use native.Mathlib.Omega.{arith}
 use lib.IntN.{ℤ}
 use Rattle.whole.specs.Parts.{Within}
+use Rattle.whole.specs.Rounding.{roundedAway}
 use Rattle.whole.proofs.Read.{back-in}
+use Rattle.whole.proofs.PartLaws.{either}
 use Rattle.station_rules.specs.Lines.{adjustBy}
 use Rattle.station_rules.specs.declared.Test.{Test}
 use Rattle.line_averages.specs.Ranges.{TestFits, FoundFits}
-use Rattle.line_rounding.specs.Average.{averageOf}
 use Rattle.line_past.proofs.RangeLaws.{held-less}
-use Rattle.line_rounding.proofs.RoundLaws.{average-is}
 use Rattle.line_verdict.proofs.VerdictLaws.{shut-small, verdict-shut, verdict-by, some-of}
 use borrow.Author.Needs.{needs}
 use Rattle.line_verdict.proofs.verdict_on.Statement.{statement}
@@ -55,7 +55,9 @@ rounded-requires : tie.Need-rounded-requires
 rounded-requires c κs =
     let q = fits (c .before .before) in
     let w = q .sets .within in
-    (record { within = subst (Within 660000 660000) (sym (back-in w tt tt .is)) w; few = q .sets .few }, q .some)
+    let b = back-in w tt tt in
+    let few = q .sets .few in
+    (record { over = omega arith; under = omega arith }, (q .some, omega arith))
 
 adjust-requires : tie.Need-adjust-requires
 adjust-requires c κs =
@@ -63,7 +65,12 @@ adjust-requires c κs =
     let v = at-known-told .before .before .before .before in
     let s = v .before .before .before .before .before in
     let w = s .pre .1 .0 .small in
-    (subst (Within 1000 1000) (sym (back-in w tt tt .is)) w, c .rounded .ensures .1)
+    let q = fits at-known-told in
+    let b = back-in (q .sets .within) tt tt in
+    let near = c .rounded .ensures .1 in
+    let sets = q .sets in
+    let sign = either (found at-known-told .sum) in
+    (subst (Within 1000 1000) (sym (back-in w tt tt .is)) w, record { over = omega (arith, sign); under = omega (arith, sign) })
 
 enum-told : tie.Need-enum-told
 enum-told c = search needs
@@ -75,7 +82,7 @@ returns-2 c =
     let t = found k in
     let v = k .before .before .before .before in
     let s = v .before .before .before .before .before in (
-      c .adjust .ensures .0 ∙ ap₂ adjustBy (back-in (s .pre .1 .0 .small) tt tt .is) (c .before .rounded .ensures .0 ∙ ap (λ (z : ℤ). averageOf z (t .count)) (back-in (q .sets .within) tt tt .is) ∙ average-is t)
+      c .adjust .ensures .0 ∙ ap₂ adjustBy (back-in (s .pre .1 .0 .small) tt tt .is) (c .before .rounded .ensures .0 ∙ ap (λ (z : ℤ). roundedAway z (t .count)) (back-in (q .sets .within) tt tt .is))
           ∙ verdict-by (s .args .limits) (s .args .l) (s .args .day) (s .args .set) (v .valid-count .result) (v .before .before .before .if1 .left) (s .pre .1 .0) (v .valid-count .ensures .0) (v .valid-count .ensures .1)
           (sym (k .before .t .given .1) ∙ k .before .before .before .first-exceeded .ensures .0),
       c .adjust .ensures .1,
