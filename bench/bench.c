@@ -26,7 +26,7 @@ struct side {
     struct grain_outcome (*sheet)(struct grain_station *, uint32_t, uint64_t, const int32_t *, size_t);
     struct grain_answer (*repair)(struct grain_station *, uint32_t);
     struct grain_certificate (*market)(struct grain_station *, uint32_t, uint64_t, uint32_t, float, float, float,
-                                       uint32_t, int32_t);
+                                       uint32_t, uint32_t, int32_t);
     struct grain_answer (*chart_open)(struct grain_chart *, uint64_t);
     struct grain_charted (*chart_set)(struct grain_chart *, uint32_t, const int32_t *, size_t, uint8_t *, size_t);
     struct grain_written (*chart_text)(const uint8_t *, size_t, uint8_t *, size_t);
@@ -77,9 +77,9 @@ static float float_of(uint32_t word)
 static int32_t edge(void)
 {
     static const int32_t edges[] = {
-        INT32_MIN, -132001, -10001, -1001, -1000, -2,    -1,    0,     1,     2,      3,
-        4,         5,       6,      10,    12,    1000,  1001,  5000,  5001,  9999,   10000,
-        10001,     20000,   20001,  50001, 65536, 99990, 99998, 99999, 100000, 132001, INT32_MAX,
+        INT32_MIN, -132001, -10001, -1001, -1000, -500,  -2,    -1,    0,     1,      2,      3,
+        4,         5,       6,      10,    12,    500,   1000,  1001,  1400,  5000,   5001,   9999,
+        10000,     10001,   20000,  20001, 50001, 65536, 99990, 99998, 99999, 100000, 132001, INT32_MAX,
     };
     return edges[bits() % (sizeof edges / sizeof edges[0])];
 }
@@ -136,7 +136,7 @@ static size_t fill_text(uint8_t *text, size_t least)
 
 enum { CALLS = 200000, TEXTS = 20000, GUARD = 16 };
 
-static uint64_t compared, accepted[8], refused[23];
+static uint64_t gluten_certified, compared, accepted[8], refused[25];
 
 /* Counts an answer; its first two words are accepted and number. */
 static void count(int call, const void *answer)
@@ -253,8 +253,19 @@ static void compare_sheet(struct guarded_station *by_core, struct guarded_statio
 static void compare_market(struct guarded_station *by_core, struct guarded_station *by_plain)
 {
     struct grain_station *station = &by_core->station;
-    uint32_t day = some_day(station), scan = (uint32_t)station->row, kind = (uint32_t)range(0, 3);
+    uint32_t day = some_day(station), scan = (uint32_t)station->row, kind = (uint32_t)range(0, 3), asked = 0;
     uint64_t line = some_line(station);
+    if (one_in(station->row == GRAIN_ROW_WHEAT ? 2 : 20)) {
+        asked = one_in(8) ? GRAIN_GLUTEN_OTHER_CLASS : (uint32_t)range(1, 2);
+        kind = one_in(3) ? kind : GRAIN_STANDARD;
+    }
+    /* where the gluten intercept is rounded at a half */
+    if (asked && one_in(20))
+        by_core->station.lines[0].intercept = by_plain->station.lines[0].intercept = one_in(2) ? 500 : -500;
+    if (one_in(20))
+        asked = one_in(2) ? (uint32_t)edge() : (uint32_t)bits();
+    if (station->row == GRAIN_ROW_WHEAT && !one_in(asked ? 8 : 2))
+        scan = GRAIN_WHEAT_GLUTEN;
     if (one_in(20))
         scan = (uint32_t)edge();
     if (one_in(20))
@@ -267,11 +278,12 @@ static void compare_market(struct guarded_station *by_core, struct guarded_stati
             f[i] = float_of((uint32_t)bits());
     }
     struct grain_certificate one =
-        core.market(&by_core->station, day, line, scan, f[0], f[1], f[2], kind, basis);
+        core.market(&by_core->station, day, line, scan, f[0], f[1], f[2], asked, kind, basis);
     struct grain_certificate other =
-        plain.market(&by_plain->station, day, line, scan, f[0], f[1], f[2], kind, basis);
+        plain.market(&by_plain->station, day, line, scan, f[0], f[1], f[2], asked, kind, basis);
     same("a market test's answer", &one, &other, sizeof one);
     count(4, &one);
+    gluten_certified += asked && one.accepted;
 }
 
 static void compare_repair(struct guarded_station *by_core, struct guarded_station *by_plain)
@@ -419,7 +431,9 @@ static void compare(void)
             fprintf(stderr, "bench: no %s was accepted\n", calls[i]);
             exit(1);
         }
-    for (int i = 0; i < 23; i++)
+    if (!gluten_certified)
+        fail("no gluten was certified");
+    for (int i = 0; i < 25; i++)
         if (!refused[i]) {
             fprintf(stderr, "bench: number %d was never met\n", i);
             exit(1);
@@ -556,13 +570,33 @@ WORK(market_work)
         for (int i = 0; i < INPUTS; i++) {
             const float *f = requests[i].floats;
             struct grain_certificate c = side->market(&station, 5, requests[i].line, (uint32_t)the_row, f[0], f[1], f[2],
-                                                      requests[i].kind, requests[i].basis);
+                                                      GRAIN_LINE_FIGURE, requests[i].kind, requests[i].basis);
             sum += c.accepted + c.figure + c.converted + c.day + (uint64_t)(int64_t)(c.intercept + c.basis);
         }
     *seconds += now() - start;
     return sum + (uint64_t)station.day;
 }
 FOR_BOTH(market_work)
+
+/* Wet gluten of both classes, by an intercept that is rounded. */
+WORK(gluten_work)
+{
+    uint64_t sum = 0;
+    struct grain_station station = the_station;
+    station.lines[0].intercept = 137;
+    double start = now();
+    for (int pass = 0; pass < 60; pass++)
+        for (int i = 0; i < INPUTS; i++) {
+            const float *f = requests[i].floats;
+            uint32_t asked = i % 2 ? GRAIN_GLUTEN_HARD_RED_SPRING : GRAIN_GLUTEN_HARD_RED_WINTER;
+            struct grain_certificate c = side->market(&station, 5, requests[i].line, GRAIN_WHEAT_GLUTEN, f[0], f[1], f[2],
+                                                      asked, GRAIN_STANDARD, requests[i].basis);
+            sum += c.accepted + c.figure + c.converted + c.day + (uint64_t)(int64_t)(c.intercept + c.basis);
+        }
+    *seconds += now() - start;
+    return sum + (uint64_t)station.day;
+}
+FOR_BOTH(gluten_work)
 
 /* Repairs of one station after another, each as it was made; the copies are not timed. */
 WORK(repairs_work)
@@ -750,6 +784,7 @@ int main(int argc, char **argv)
     ROW("market, wheat, 1 set", market_work, 60.0 * INPUTS, "a call");
     make_requests(4);
     ROW("market, wheat, 4 sets", market_work, 60.0 * INPUTS, "a call");
+    ROW("market, gluten, 4 sets", gluten_work, 60.0 * INPUTS, "a call");
     the_row = GRAIN_ROW_CORN;
     make_sheets();
     ROW("sheets, corn", sheets_work, 20.0 * INPUTS, "a call");

@@ -110,8 +110,23 @@ static struct grain_certificate no_certificate(uint32_t number)
     return (struct grain_certificate){.number = number};
 }
 
+/* Whether the scan has what is asked for. */
+static bool has_asked(int32_t row, uint32_t scan_kind, bool gluten)
+{
+    if (row == GRAIN_ROW_CORN)
+        return !gluten && scan_kind == GRAIN_CORN;
+    return scan_kind == GRAIN_WHEAT_GLUTEN || (!gluten && scan_kind == GRAIN_WHEAT);
+}
+
+/* Times 3.029, halves away from zero. */
+static int32_t gluten_intercept(int32_t intercept)
+{
+    return (3029 * intercept + (intercept < 0 ? -500 : 500)) / 1000;
+}
+
 struct grain_certificate plain_market(struct grain_station *station, uint32_t day, uint64_t line, uint32_t scan_kind,
-                                      float first, float second, float third, uint32_t basis_kind, int32_t basis)
+                                      float first, float second, float third, uint32_t asked, uint32_t basis_kind,
+                                      int32_t basis)
 {
     if (!sound_station(station))
         return no_certificate(0);
@@ -120,35 +135,47 @@ struct grain_certificate plain_market(struct grain_station *station, uint32_t da
     const struct product *product = &products[station->row];
     if (line >= (uint64_t)product->lines)
         return no_certificate(3);
-    if (scan_kind != (uint32_t)station->row)
+    bool gluten = asked != GRAIN_LINE_FIGURE;
+    if (!has_asked(station->row, scan_kind, gluten))
         return no_certificate(8);
+    const struct grain_line *held = &station->lines[line];
+    int32_t intercept = held->intercept, standard = product->standard;
+    float percent = line == 0 ? first : line == 1 ? second : third;
+    if (gluten) {
+        if (asked > GRAIN_GLUTEN_HARD_RED_SPRING)
+            return no_certificate(23);
+        if (basis_kind != GRAIN_STANDARD)
+            return no_certificate(24);
+        intercept = gluten_intercept(intercept);
+        standard = 1400;
+        percent = second;
+    }
     int32_t reading;
-    if (!read_percent(line == 0 ? first : line == 1 ? second : third, &reading))
+    if (!read_percent(percent, &reading))
         return no_certificate(9);
     if (basis_kind > GRAIN_AS_IS)
         return no_certificate(10);
     if (basis_kind == GRAIN_STANDARD)
-        basis = product->standard;
+        basis = standard;
     else if (basis_kind == GRAIN_DRY)
         basis = 0;
     if (basis < 0 || basis > 5000)
         return no_certificate(10);
-    const struct grain_line *held = &station->lines[line];
-    int32_t value = reading + held->intercept;
+    int32_t value = reading + intercept;
     if (value < 0 || value > 10000)
         return no_certificate(11);
     if (held->phase != GRAIN_OPEN)
         return no_certificate(12);
     if ((int32_t)day - held->past[0].day > 7)
         return no_certificate(13);
-    int32_t above = value * (10000 - basis), below = 10000 - product->standard;
+    int32_t above = value * (10000 - basis), below = 10000 - standard;
     if (above > 10000 * below)
         return no_certificate(14);
     station->day = (int32_t)day;
     return (struct grain_certificate){
         .accepted = 1,
         .day = (uint32_t)held->past[0].day,
-        .intercept = held->intercept,
+        .intercept = intercept,
         .basis = basis,
         .figure = (uint32_t)((value + 5) / 10),
         .converted = (uint32_t)((above + 5 * below) / (10 * below)),

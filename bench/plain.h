@@ -10,7 +10,8 @@ struct grain_outcome plain_sheet(struct grain_station *restrict station, uint32_
                                  const int32_t *restrict numbers, size_t numbers_len);
 struct grain_answer plain_repair(struct grain_station *station, uint32_t day);
 struct grain_certificate plain_market(struct grain_station *station, uint32_t day, uint64_t line, uint32_t scan_kind,
-                                      float first, float second, float third, uint32_t basis_kind, int32_t basis);
+                                      float first, float second, float third, uint32_t asked, uint32_t basis_kind,
+                                      int32_t basis);
 struct grain_answer plain_chart_open(struct grain_chart *chart, uint64_t row);
 struct grain_charted plain_chart_set(struct grain_chart *restrict chart, uint32_t week, const int32_t *restrict numbers,
                                      size_t numbers_len, uint8_t *restrict line, size_t line_len);

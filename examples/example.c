@@ -1,4 +1,4 @@
-/* A wheat station's first days, a chart set and a chart text. Prints what the calls answer. */
+/* A wheat station's first days, wet gluten too, a chart set and a chart text. Prints what the calls answer. */
 #include "grain.h"
 
 #include <inttypes.h>
@@ -37,8 +37,8 @@ static void sheet(struct grain_station *station, uint32_t day, int32_t result, i
 static void market(struct grain_station *station, uint32_t day, float percent)
 {
     printf("day %" PRIu32 ": ", day);
-    struct grain_certificate c =
-        grain_market(station, day, GRAIN_LINE_PROTEIN, GRAIN_WHEAT, percent, 0, 0, GRAIN_DRY, 0);
+    struct grain_certificate c = grain_market(station, day, GRAIN_LINE_PROTEIN, GRAIN_WHEAT, percent, 0, 0,
+                                              GRAIN_LINE_FIGURE, GRAIN_DRY, 0);
     if (!c.accepted) {
         refused("market test", c.number);
         return;
@@ -46,6 +46,21 @@ static void market(struct grain_station *station, uint32_t day, float percent)
     printf("certificate: %" PRIu32 ".%" PRIu32 " percent, dry %" PRIu32 ".%" PRIu32 "; sheet of day %" PRIu32
            ", intercept %" PRId32 "\n",
            c.figure / 10, c.figure % 10, c.converted / 10, c.converted % 10, c.day, c.intercept);
+}
+
+/* Wet gluten of a class of wheat. The scan brings protein and gluten. */
+static void gluten(struct grain_station *station, uint32_t day, float protein, float percent, uint32_t asked)
+{
+    printf("day %" PRIu32 ": ", day);
+    struct grain_certificate c = grain_market(station, day, GRAIN_LINE_PROTEIN, GRAIN_WHEAT_GLUTEN, protein, percent, 0,
+                                              asked, GRAIN_STANDARD, 0);
+    if (!c.accepted) {
+        refused("gluten test", c.number);
+        return;
+    }
+    printf("certificate: wet gluten %" PRIu32 ".%" PRIu32 " percent at moisture %" PRId32 ".%" PRId32
+           "; sheet of day %" PRIu32 ", intercept %" PRId32 "\n",
+           c.figure / 10, c.figure % 10, c.basis / 100, c.basis / 10 % 10, c.day, c.intercept);
 }
 
 int main(void)
@@ -57,6 +72,8 @@ int main(void)
     market(&station, 1, 13.54f);    /* the check is due */
     sheet(&station, 2, 1010, 1011); /* the check is met */
     market(&station, 3, 13.54f);
+    gluten(&station, 3, 13.54f, 34.12f, GRAIN_GLUTEN_HARD_RED_WINTER);
+    gluten(&station, 3, 13.54f, 34.12f, GRAIN_GLUTEN_OTHER_CLASS);
     sheet(&station, 2, 1010, 1011); /* a day before the last */
     if (!grain_repair(&station, 4).accepted)
         return 1;

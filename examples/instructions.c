@@ -16,7 +16,7 @@ struct side {
     struct grain_outcome (*sheet)(struct grain_station *, uint32_t, uint64_t, const int32_t *, size_t);
     struct grain_answer (*repair)(struct grain_station *, uint32_t);
     struct grain_certificate (*market)(struct grain_station *, uint32_t, uint64_t, uint32_t, float, float, float,
-                                       uint32_t, int32_t);
+                                       uint32_t, uint32_t, int32_t);
     struct grain_answer (*chart_open)(struct grain_chart *, uint64_t);
     struct grain_charted (*chart_set)(struct grain_chart *, uint32_t, const int32_t *, size_t, uint8_t *, size_t);
 };
@@ -51,7 +51,9 @@ static long market(const struct side *side, uint64_t row, long count)
     long accepted = 0;
     for (long i = 0; i < count; i++) {
         uint64_t line = row == GRAIN_ROW_CORN ? (uint64_t)(i % 3) : 0;
-        accepted += side->market(&station, 5, line, (uint32_t)row, 10.0f, 20.0f, 30.0f, GRAIN_STANDARD, 0).accepted;
+        struct grain_certificate c = side->market(&station, 5, line, (uint32_t)row, 10.0f, 20.0f, 30.0f,
+                                                  GRAIN_LINE_FIGURE, GRAIN_STANDARD, 0);
+        accepted += c.accepted;
     }
     return accepted;
 }

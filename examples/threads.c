@@ -5,6 +5,7 @@
 #include "grain.h"
 
 #include <pthread.h>
+#include <stdbool.h>
 #include <stdio.h>
 #include <stdlib.h>
 #include <string.h>
@@ -59,9 +60,11 @@ static void one_call(struct job *job)
         take(job, &v, sizeof v);
         job->accepted[3] += v.accepted;
     } else if (call < 12) {
+        bool gluten = station->row == GRAIN_ROW_WHEAT && draw(job, 2) == 1;
+        uint32_t scan = gluten ? GRAIN_WHEAT_GLUTEN : (uint32_t)station->row, asked = gluten ? 1 + draw(job, 3) : 0;
         struct grain_certificate c =
-            grain_market(station, day, line, (uint32_t)station->row, (float)draw(job, 9000) / 100.0f,
-                         (float)draw(job, 9000) / 100.0f, (float)draw(job, 9000) / 100.0f, draw(job, 5), 1400);
+            grain_market(station, day, line, scan, (float)draw(job, 9000) / 100.0f, (float)draw(job, 9000) / 100.0f,
+                         (float)draw(job, 9000) / 100.0f, asked, gluten ? draw(job, 2) : draw(job, 5), 1400);
         take(job, &c, sizeof c);
         job->accepted[4] += c.accepted;
     } else if (call < 28) {

@@ -8,16 +8,16 @@
  * looked at.
  *
  * Answers. Every call answers a struct by value. `accepted` is 1, or 0 for a refused call; `number` is then the reason
- * (GRAIN_REFUSED_...), and the lowest number that applies is answered. All other fields are 0 where a call is refused,
- * except a text's `line`. A refused call writes nothing at all: no field of the state, no byte of a buffer. There is one
- * exception: a refused opening leaves a fresh state of row 0, every field 0.
+ * (GRAIN_REFUSED_...). The first that applies is answered, in the order of the numbers, 23 and 24 standing between 8 and 9.
+ * All other fields are 0 where a call is refused, except a text's `line`. A refused call writes nothing at all: no field of
+ * the state, no byte of a buffer. There is one exception: a refused opening leaves a fresh state of row 0, every field 0.
  *
  * Units. "Hundredths" are whole hundredths of a percent (1354 is 13.54 percent), "tenths" whole tenths of a percent. Days
  * are whole numbers from 0 to 99999 that never go back, weeks from 1 to 9999 that rise, both counted as the laboratory
  * likes.
  *
  * Pointers. A station or chart must not be NULL. Any other array may be NULL if its length is 0: a sheet without numbers is
- * refused by 4, a set without numbers by 20, an empty text by 16, and a buffer of length 0 by 22, each where no lower
+ * refused by 4, a set without numbers by 20, an empty text by 16, and a buffer of length 0 by 22, each where no earlier
  * number applies. Arrays handed to one call must not overlap each other or the state (GRAIN_RESTRICT).
  *
  * Threads. There is no global state, and nothing is allocated: calls on different stations and charts may run on any
@@ -28,7 +28,7 @@
 #include <stddef.h>
 #include <stdint.h>
 
-#define GRAIN_VERSION "0.2.0"
+#define GRAIN_VERSION "0.3.0"
 
 /* Changes whenever struct grain_station or struct grain_chart does: a stored state of another layout is not to be used. */
 #define GRAIN_LAYOUT 1
@@ -122,12 +122,21 @@ struct grain_station {
 #define GRAIN_CORN_SHEET 24  /* four samples */
 
 /* Kinds of scan. */
-#define GRAIN_WHEAT 0 /* first is protein; second and third are not looked at */
-#define GRAIN_CORN 1  /* first is protein, second oil, third starch; only the asked line's is looked at */
-#define GRAIN_FAULT 2 /* the analyser reported a fault, as does every larger number: refused by 8 */
+#define GRAIN_WHEAT 0        /* first is protein; second and third are not looked at */
+#define GRAIN_CORN 1         /* first is protein, second oil, third starch; only the asked line's is looked at */
+#define GRAIN_FAULT 2        /* the analyser reported a fault, as does every number above 3: refused by 8 */
+#define GRAIN_WHEAT_GLUTEN 3 /* first is protein, second wet gluten; only what is asked for is looked at, third never */
 
-/* Kinds of moisture basis. A kind that there isn't is refused by 10. */
-#define GRAIN_STANDARD 0  /* the grain's standard basis; basis is not looked at */
+/* What a market test asks for. Wet gluten is asked for on line 0 of wheat, with the wheat's class and GRAIN_STANDARD, and
+ * needs a scan GRAIN_WHEAT_GLUTEN. */
+#define GRAIN_LINE_FIGURE 0            /* the line's own figure */
+#define GRAIN_GLUTEN_HARD_RED_WINTER 1 /* wet gluten of Hard Red Winter wheat */
+#define GRAIN_GLUTEN_HARD_RED_SPRING 2 /* wet gluten of Hard Red Spring wheat */
+#define GRAIN_GLUTEN_OTHER_CLASS 3     /* wet gluten of another class, as is every larger number: refused by 23 */
+
+/* Kinds of moisture basis. A kind that there isn't is refused by 10. Where wet gluten is asked for, every kind but
+ * GRAIN_STANDARD is refused by 24, whatever basis is. */
+#define GRAIN_STANDARD 0  /* the grain's standard basis, for wet gluten 1400; basis is not looked at */
 #define GRAIN_DRY 1       /* 0; basis is not looked at */
 #define GRAIN_SPECIFIED 2 /* basis, hundredths, 0 to 5000 */
 #define GRAIN_AS_IS 3     /* basis is the official moisture, hundredths, 0 to 5000 */
@@ -185,8 +194,8 @@ struct grain_outcome {
 struct grain_certificate {
     uint32_t accepted, number;
     uint32_t day;       /* of the line's newest sheet */
-    int32_t intercept;  /* hundredths */
-    int32_t basis;      /* the moisture basis B, hundredths */
+    int32_t intercept;  /* the line's, or the one derived from it for wet gluten, hundredths */
+    int32_t basis;      /* the moisture basis B, hundredths; for wet gluten 1400 */
     uint32_t figure;    /* the reading with its intercept (that is, at the standard basis), tenths */
     uint32_t converted; /* the same at B, tenths; rounded once, not from figure */
 };
@@ -237,6 +246,8 @@ struct grain_written {
 #define GRAIN_REFUSED_PAIR_COUNT 20
 #define GRAIN_REFUSED_RESULT 21
 #define GRAIN_REFUSED_BUFFER 22
+#define GRAIN_REFUSED_GLUTEN_CLASS 23
+#define GRAIN_REFUSED_GLUTEN_BASIS 24
 
 /* What is wrong, in a technician's words. */
 static inline const char *grain_message(uint32_t number)
@@ -261,7 +272,7 @@ static inline const char *grain_message(uint32_t number)
     case GRAIN_REFUSED_AGAIN:
         return "an again pair is missing for a sample that must be measured again, or is filled in where none is due";
     case GRAIN_REFUSED_SCAN:
-        return "the analyser reported a fault, or the scan is of another grain";
+        return "the analyser reported a fault, the scan is of another grain, or gluten is asked for and the scan has none";
     case GRAIN_REFUSED_FLOAT:
         return "the analyser's value is not a number, below 0 or above 100 percent";
     case GRAIN_REFUSED_BASIS:
@@ -291,6 +302,10 @@ static inline const char *grain_message(uint32_t number)
         return "an original or monitor result lies outside 0.00 to 100.00 percent";
     case GRAIN_REFUSED_BUFFER:
         return "the output buffer has fewer than 40 bytes for each line";
+    case GRAIN_REFUSED_GLUTEN_CLASS:
+        return "wet gluten is reported for Hard Red Winter and Hard Red Spring wheat only";
+    case GRAIN_REFUSED_GLUTEN_BASIS:
+        return "wet gluten is reported at 14.0 percent moisture only: ask for the standard basis";
     default:
         return "there is no refusal with this number";
     }
@@ -312,10 +327,17 @@ GRAIN_NODISCARD struct grain_outcome grain_sheet(struct grain_station *GRAIN_RES
  * intercepts stay. Refused by 0, 2. */
 GRAIN_NODISCARD struct grain_answer grain_repair(struct grain_station *station, uint32_t day);
 
-/* Tests market grain on a line; changes the station's day only. The floats are in percent. Refused by 0, 2, 3, 8 to 14. */
+/* Tests market grain on a line; changes the station's day only. The floats are in percent. asked: the line's own figure
+ * (GRAIN_LINE_FIGURE), or wet gluten of a class of wheat (GRAIN_GLUTEN_...).
+ *
+ * Wet gluten is tested under the protein line's phase and newest sheet. Its intercept is that line's times 3.029, rounded
+ * to a hundredth, halves away from zero. It is reported at 14.0 percent moisture and not converted: both figures are equal.
+ *
+ * Refused by 0, 2, 3, 8, 23, 24, 9 to 14, in this order; by 23 and 24 only where wet gluten is asked for, and by 10 and 14
+ * only where it isn't. */
 GRAIN_NODISCARD struct grain_certificate grain_market(struct grain_station *station, uint32_t day, uint64_t line,
                                                       uint32_t scan_kind, float first, float second, float third,
-                                                      uint32_t basis_kind, int32_t basis);
+                                                      uint32_t asked, uint32_t basis_kind, int32_t basis);
 
 /* Makes *chart a fresh chart of a chart row, whatever stood there. Refused by 1: then it is one of row 0. */
 GRAIN_NODISCARD struct grain_answer grain_chart_open(struct grain_chart *chart, uint64_t row);

@@ -92,7 +92,8 @@ pub struct Outcome {
     pub change: i32,
 }
 
-/// The day of the line's newest set, intercept and B in hundredths, two figures in tenths.
+/// The day of the line's newest set, intercept (for wet gluten the derived one) and B in hundredths,
+/// two figures in tenths.
 #[repr(C)]
 #[derive(Clone, Copy, Debug, Default, PartialEq, Eq, Hash)]
 pub struct Certificate {
@@ -280,6 +281,7 @@ unsafe extern "C" {
         first: f32,
         second: f32,
         third: f32,
+        asked: u32,
         basis_kind: u32,
         basis: i32,
     ) -> Certificate;

@@ -21,5 +21,7 @@ mod store;
 pub use chart::{Chart, ChartValues, TextRefusal, chart_text, chart_text_into};
 pub use ffi::LAYOUT;
 pub use refusal::Refusal;
-pub use station::{Basis, Certificate, Line, Outcome, PastSet, Phase, Scan, Station, reading};
+pub use station::{
+    Asked, Basis, Certificate, Line, Outcome, PastSet, Phase, Scan, Station, WheatClass, reading,
+};
 pub use store::RestoreError;

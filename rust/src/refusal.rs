@@ -3,7 +3,8 @@
 use std::error::Error;
 use std::fmt;
 
-/// Why a call was refused. The lowest applying number is answered, and the state stays as it was.
+/// Why a call was refused. The first that applies is answered, in the order of the numbers, 23 and 24
+/// standing between 8 and 9, and the state stays as it was.
 ///
 /// ```
 /// use grain::{Refusal, Station};
@@ -35,13 +36,13 @@ pub enum Refusal {
     /// An again pair is missing for a deviating sample of a sheet whose range is too wide, or is there
     /// though none is due.
     Again = 7,
-    /// The scan is a fault or another grain's.
+    /// The scan is a fault or another grain's, or wet gluten is asked for and the scan has none.
     Scan = 8,
     /// The analyser's value is not a number, below 0 or above 100 percent.
     Float = 9,
     /// The moisture basis lies outside 0 to 5000 hundredths, or its kind doesn't exist.
     Basis = 10,
-    /// The reading with the line's intercept lies outside 0 to 10000 hundredths.
+    /// The reading with its intercept lies outside 0 to 10000 hundredths.
     Corrected = 11,
     /// The line isn't open: no sheet has met its averages since it was opened, adjusted or repaired.
     NotOpen = 12,
@@ -65,10 +66,14 @@ pub enum Refusal {
     Result = 21,
     /// The buffer has fewer than 40 bytes for each output line.
     BufferTooShort = 22,
+    /// Wet gluten is asked for of a class other than Hard Red Winter and Hard Red Spring.
+    GlutenClass = 23,
+    /// Wet gluten is asked for with a basis that isn't asked for as standard, 1400 hundredths too.
+    GlutenBasis = 24,
 }
 
 /// Every refusal with its message, in the order of the numbers.
-const MESSAGES: [(Refusal, &str); 23] = [
+const MESSAGES: [(Refusal, &str); 25] = [
     (
         Refusal::Unsound,
         "the stored station or chart is damaged; restore it from a copy or open a new one",
@@ -106,7 +111,8 @@ const MESSAGES: [(Refusal, &str); 23] = [
     ),
     (
         Refusal::Scan,
-        "the analyser reported a fault, or the scan is of another grain",
+        "the analyser reported a fault, the scan is of another grain, or gluten is asked for and the \
+         scan has none",
     ),
     (
         Refusal::Float,
@@ -165,10 +171,18 @@ const MESSAGES: [(Refusal, &str); 23] = [
         Refusal::BufferTooShort,
         "the output buffer has fewer than 40 bytes for each line",
     ),
+    (
+        Refusal::GlutenClass,
+        "wet gluten is reported for Hard Red Winter and Hard Red Spring wheat only",
+    ),
+    (
+        Refusal::GlutenBasis,
+        "wet gluten is reported at 14.0 percent moisture only: ask for the standard basis",
+    ),
 ];
 
 impl Refusal {
-    /// The refusals in the order of their numbers, 0 to 22.
+    /// The refusals in the order of their numbers, 0 to 24.
     pub fn all() -> impl Iterator<Item = Refusal> {
         MESSAGES.iter().map(|(refusal, _)| *refusal)
     }
@@ -179,7 +193,7 @@ impl Refusal {
         MESSAGES.get(place).map(|(refusal, _)| *refusal)
     }
 
-    /// The number, 0 to 22.
+    /// The number, 0 to 24.
     pub fn number(self) -> u8 {
         self as u8
     }

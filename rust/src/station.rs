@@ -11,7 +11,7 @@ use crate::store::{self, RestoreError};
 /// ([`Station::from_bytes`]). A refused call leaves it as it was.
 ///
 /// ```
-/// use grain::{Basis, Phase, Scan, Station};
+/// use grain::{Asked, Basis, Phase, Scan, Station};
 ///
 /// let mut station = Station::open(Station::WHEAT)?;
 /// // Six samples: baseline, first, second, third, again-first, again-second; -1 is not measured.
@@ -19,7 +19,8 @@ use crate::store::{self, RestoreError};
 /// let outcome = station.sheet(100, 0, &sheet)?;
 /// assert_eq!((outcome.sum, outcome.count, outcome.phase, outcome.change), (0, 12, Phase::Open, 0));
 ///
-/// let certificate = station.market(101, 0, Scan::Wheat(13.54), Basis::Dry)?;
+/// let scan = Scan::Wheat(13.54);
+/// let certificate = station.market(101, 0, scan, Asked::LineFigure, Basis::Dry)?;
 /// assert_eq!((certificate.figure, certificate.converted), (135, 154));
 /// assert_eq!(station.day(), 101);
 /// # Ok::<(), grain::Refusal>(())
@@ -74,15 +75,46 @@ pub struct Outcome {
 /// What the analyser answered, in percent.
 #[derive(Clone, Copy, Debug, PartialEq)]
 pub enum Scan {
+    /// Protein.
     Wheat(f32),
-    Corn { protein: f32, oil: f32, starch: f32 },
+    /// Protein and wet gluten; only what is asked for is looked at.
+    WheatGluten {
+        protein: f32,
+        gluten: f32,
+    },
+    Corn {
+        protein: f32,
+        oil: f32,
+        starch: f32,
+    },
+    /// A fault with its code.
     Fault(u8),
 }
 
-/// The moisture basis B of a market test, in hundredths of a percent.
+/// What a market test asks for.
+#[derive(Clone, Copy, Debug, PartialEq, Eq, Hash)]
+pub enum Asked {
+    /// The line's own figure.
+    LineFigure,
+    /// Wet gluten of a class of wheat: on line 0 of a wheat station, with a scan that brings it
+    /// ([`Scan::WheatGluten`]) and the standard basis.
+    Gluten(WheatClass),
+}
+
+/// The class of a wheat. Wet gluten is reported for the two of hard red wheat only.
+#[derive(Clone, Copy, Debug, PartialEq, Eq, Hash)]
+pub enum WheatClass {
+    HardRedWinter,
+    HardRedSpring,
+    /// Any other: wet gluten of it is refused ([`Refusal::GlutenClass`]).
+    Other,
+}
+
+/// The moisture basis B of a market test, in hundredths of a percent. Wet gluten has the standard one
+/// only.
 #[derive(Clone, Copy, Debug, PartialEq, Eq, Hash)]
 pub enum Basis {
-    /// The grain's standard basis.
+    /// The grain's standard basis: 1200 for wheat, 0 for corn, 1400 for wet gluten.
     Standard,
     Dry,
     Specified(i32),
@@ -95,7 +127,7 @@ pub enum Basis {
 pub struct Certificate {
     /// The day of the line's newest set.
     pub day: u32,
-    /// Hundredths of a percent.
+    /// Hundredths of a percent: the line's, or for wet gluten the one derived from it.
     pub intercept: i32,
     /// B in hundredths of a percent.
     pub basis: i32,
@@ -126,7 +158,21 @@ impl Scan {
                 oil,
                 starch,
             } => (1, [protein, oil, starch]),
-            Scan::Fault(code) => (2 + u32::from(code), [0.0; 3]),
+            // One kind for every code: 3 is a scan with gluten.
+            Scan::Fault(_) => (2, [0.0; 3]),
+            Scan::WheatGluten { protein, gluten } => (3, [protein, gluten, 0.0]),
+        }
+    }
+}
+
+impl Asked {
+    /// The number of the C interface.
+    fn argument(self) -> u32 {
+        match self {
+            Asked::LineFigure => 0,
+            Asked::Gluten(WheatClass::HardRedWinter) => 1,
+            Asked::Gluten(WheatClass::HardRedSpring) => 2,
+            Asked::Gluten(WheatClass::Other) => 3,
         }
     }
 }
@@ -291,12 +337,41 @@ impl Station {
     /// A market test of a line.
     ///
     /// ```
-    /// use grain::{Basis, Refusal, Scan, Station};
+    /// use grain::{Asked, Basis, Refusal, Scan, Station};
     ///
     /// let mut station = Station::open(Station::CORN)?;
+    /// let mut asked = |scan| station.market(1, 2, scan, Asked::LineFigure, Basis::Standard);
     /// let scan = Scan::Corn { protein: 8.125, oil: 3.9, starch: 71.2 };
-    /// assert_eq!(station.market(1, 2, scan, Basis::Standard), Err(Refusal::NotOpen));
-    /// assert_eq!(station.market(1, 2, Scan::Fault(17), Basis::Standard), Err(Refusal::Scan));
+    /// assert_eq!(asked(scan), Err(Refusal::NotOpen));
+    /// assert_eq!(asked(Scan::Fault(17)), Err(Refusal::Scan));
+    /// # Ok::<(), Refusal>(())
+    /// ```
+    ///
+    /// Wet gluten of hard red wheat is tested under the protein line's phase and newest sheet. Its
+    /// intercept is that line's times 3.029, rounded to a hundredth with halves away from zero; it is
+    /// reported at 14.0 percent moisture and not converted.
+    ///
+    /// ```
+    /// use grain::{Asked, Basis, Refusal, Scan, Station, WheatClass};
+    ///
+    /// let mut station = Station::open(Station::WHEAT)?;
+    /// // 0.11 percent too high: the intercept becomes -11, and the next sheet meets the check.
+    /// station.sheet(1, 0, &[1300, 1311, 1311, -1, -1, -1].repeat(6))?;
+    /// station.sheet(2, 0, &[1300, 1311, 1311, -1, -1, -1].repeat(6))?;
+    ///
+    /// let scan = Scan::WheatGluten { protein: 13.54, gluten: 34.08 };
+    /// let winter = Asked::Gluten(WheatClass::HardRedWinter);
+    /// let certificate = station.market(3, 0, scan, winter, Basis::Standard)?;
+    /// assert_eq!((certificate.day, certificate.intercept, certificate.basis), (2, -33, 1400));
+    /// assert_eq!((certificate.figure, certificate.converted), (338, 338));
+    ///
+    /// let other = Asked::Gluten(WheatClass::Other);
+    /// let refused = station.market(3, 0, scan, other, Basis::Standard);
+    /// assert_eq!(refused, Err(Refusal::GlutenClass));
+    /// let refused = station.market(3, 0, scan, winter, Basis::Specified(1400));
+    /// assert_eq!(refused, Err(Refusal::GlutenBasis));
+    /// let refused = station.market(3, 0, Scan::Wheat(13.54), winter, Basis::Standard);
+    /// assert_eq!(refused, Err(Refusal::Scan));
     /// # Ok::<(), Refusal>(())
     /// ```
     pub fn market(
@@ -304,6 +379,7 @@ impl Station {
         day: u32,
         line: u64,
         scan: Scan,
+        asked: Asked,
         basis: Basis,
     ) -> Result<Certificate, Refusal> {
         let (scan_kind, [first, second, third]) = scan.arguments();
@@ -318,6 +394,7 @@ impl Station {
                 first,
                 second,
                 third,
+                asked.argument(),
                 basis_kind,
                 basis,
             )
@@ -345,4 +422,62 @@ impl Station {
 pub fn reading(percent: f32) -> Result<u32, Refusal> {
     let said = ffi::grain_reading(percent);
     answer(said.accepted, said.number).map(|()| said.hundredths)
+}
+
+#[cfg(test)]
+mod tests {
+    use super::*;
+
+    /// A number that the C header defines.
+    fn defined(name: &str) -> u32 {
+        let words = include_str!("../../include/grain.h")
+            .lines()
+            .map(|line| line.split_whitespace().collect::<Vec<_>>())
+            .find(|words| words.starts_with(&["#define", name]));
+        words.unwrap()[2].parse().unwrap()
+    }
+
+    #[test]
+    fn kinds_are_the_headers() {
+        let corn = Scan::Corn {
+            protein: 0.0,
+            oil: 0.0,
+            starch: 0.0,
+        };
+        let set = Scan::WheatGluten {
+            protein: 0.0,
+            gluten: 0.0,
+        };
+        for (scan, name) in [
+            (Scan::Wheat(0.0), "GRAIN_WHEAT"),
+            (corn, "GRAIN_CORN"),
+            (Scan::Fault(9), "GRAIN_FAULT"),
+            (set, "GRAIN_WHEAT_GLUTEN"),
+        ] {
+            assert_eq!(scan.arguments().0, defined(name), "{name}");
+        }
+        let gluten = Asked::Gluten;
+        for (asked, name) in [
+            (Asked::LineFigure, "GRAIN_LINE_FIGURE"),
+            (
+                gluten(WheatClass::HardRedWinter),
+                "GRAIN_GLUTEN_HARD_RED_WINTER",
+            ),
+            (
+                gluten(WheatClass::HardRedSpring),
+                "GRAIN_GLUTEN_HARD_RED_SPRING",
+            ),
+            (gluten(WheatClass::Other), "GRAIN_GLUTEN_OTHER_CLASS"),
+        ] {
+            assert_eq!(asked.argument(), defined(name), "{name}");
+        }
+        for (basis, name) in [
+            (Basis::Standard, "GRAIN_STANDARD"),
+            (Basis::Dry, "GRAIN_DRY"),
+            (Basis::Specified(7), "GRAIN_SPECIFIED"),
+            (Basis::AsIs(7), "GRAIN_AS_IS"),
+        ] {
+            assert_eq!(basis.arguments().0, defined(name), "{name}");
+        }
+    }
 }

@@ -4,12 +4,15 @@ use std::collections::BTreeSet;
 use std::path::Path;
 use std::process::Command;
 
-use grain::{Chart, LAYOUT, Phase, Refusal, RestoreError, Station, chart_text, chart_text_into};
+use grain::{
+    Asked, Basis, Chart, LAYOUT, Phase, Refusal, RestoreError, Scan, Station, WheatClass,
+    chart_text, chart_text_into,
+};
 
 #[test]
 fn every_refusal_has_its_number_and_message() {
     let all: Vec<Refusal> = Refusal::all().collect();
-    assert_eq!(all.len(), 23);
+    assert_eq!(all.len(), 25);
     for (number, refusal) in (0..).zip(&all) {
         assert_eq!(refusal.number(), number);
         assert_eq!(Refusal::of(number.into()), Some(*refusal));
@@ -20,9 +23,9 @@ fn every_refusal_has_its_number_and_message() {
         );
     }
     let messages: BTreeSet<&str> = all.iter().map(|refusal| refusal.message()).collect();
-    assert_eq!(messages.len(), 23);
+    assert_eq!(messages.len(), 25);
     assert!(messages.iter().all(|message| message.len() > 20));
-    for none in [23, 100, 256, u32::MAX] {
+    for none in [25, 100, 256, u32::MAX] {
         assert_eq!(Refusal::of(none), None);
     }
 }
@@ -34,7 +37,7 @@ const SAYS: &str = r#"
 int main(void)
 {
     printf("%s\n%d\n", GRAIN_VERSION, GRAIN_LAYOUT);
-    for (uint32_t number = 0; number < 24; number++)
+    for (uint32_t number = 0; number < 26; number++)
         printf("%s\n", grain_message(number));
     return 0;
 }
@@ -75,12 +78,21 @@ fn the_header_has_the_limits() {
         .lines()
         .map(|line| line.split_whitespace().collect::<Vec<_>>().join(" "))
         .collect();
-    let products = grain_model::Rules::in_force().products;
+    let rules = grain_model::Rules::in_force();
+    let factor = format!(
+        "times {}.{:03}",
+        rules.gluten_factor / 1000,
+        rules.gluten_factor % 1000
+    );
+    let basis = format!("for wet gluten {}", rules.gluten_basis);
+    for said in [factor, basis] {
+        assert!(rows.iter().any(|row| row.contains(&said)), "{said}");
+    }
     let names = [
         vec!["wheat protein"],
         vec!["corn protein", "corn oil", "corn starch"],
     ];
-    for (product, names) in products.iter().zip(names) {
+    for (product, names) in rules.products.iter().zip(names) {
         assert_eq!(product.lines.len(), names.len());
         for (limits, name) in product.lines.iter().zip(names) {
             let (pair, sample, range) = (limits.pair, limits.sample, limits.range);
@@ -199,6 +211,28 @@ fn a_refused_call_changes_nothing() {
     assert_eq!(refused, Err(Refusal::BufferTooShort));
     assert_eq!((chart.last_week(), &chart), (7, &before));
     assert_eq!(short, [b'#'; 39]);
+}
+
+/// A fault is refused by 8 whatever its code and whatever is asked for.
+#[test]
+fn every_fault_is_refused() {
+    let mut station = Station::open(Station::WHEAT).unwrap();
+    let sheet = [1300, 1300, 1300, -1, -1, -1].repeat(6);
+    station.sheet(1, 0, &sheet).unwrap();
+    let gluten = Asked::Gluten(WheatClass::HardRedSpring);
+    for asked in [Asked::LineFigure, gluten] {
+        for code in 0..=255 {
+            let answer = station.market(2, 0, Scan::Fault(code), asked, Basis::Standard);
+            assert_eq!(answer, Err(Refusal::Scan), "{code}");
+        }
+    }
+    let scan = Scan::WheatGluten {
+        protein: 13.0,
+        gluten: 34.0,
+    };
+    let figure = |asked| station.clone().market(2, 0, scan, asked, Basis::Standard);
+    assert_eq!(figure(Asked::LineFigure).unwrap().figure, 130);
+    assert_eq!(figure(gluten).unwrap().figure, 340);
 }
 
 #[test]

@@ -6,7 +6,7 @@ use abi_station::GrainValue;
 use station_rules::STATION_PLACES;
 ghost use mathlib.Core.Path.{_≡_};
 ghost use Rattle.reading.specs.Reading.{answerOf};
-ghost use Rattle.abi_station.specs.StationAnswers.{scanOf, basisFor, readingGiven, openCall, sheetCall, repairCall, marketCall};
+ghost use Rattle.abi_station.specs.StationAnswers.{scanOf, askedOf, basisFor, readingGiven, openCall, sheetCall, repairCall, marketCall};
 
 #[no_mangle]
 pub extern "C" fn grain_reading(percent: f32) -> GrainValue
@@ -50,12 +50,14 @@ pub extern "C" fn grain_market(
     first: f32,
     second: f32,
     third: f32,
+    asked: u32,
     basis_kind: u32,
     basis: i32,
 ) -> GrainCertificate
-    ensures { λ r. ⌜ record { answer = r; places = now (state .exit) } ≡ marketCall (now (state .entry)) day line (scanOf «scan_kind» first second third) (basisFor «basis_kind» basis) ⌝ }
+    ensures { λ r. ⌜ record { answer = r; places = now (state .exit) } ≡ marketCall (now (state .entry)) day line (scanOf «scan_kind» first second third) (askedOf asked) (basisFor «basis_kind» basis) ⌝ }
 {
     let scan = abi_station::scan_of(scan_kind, first, second, third);
-    let asked = abi_station::basis_for(basis_kind, basis);
-    abi_station::tested(market::market(state, day, line, scan, asked))
+    let wanted = abi_station::asked_of(asked);
+    let at = abi_station::basis_for(basis_kind, basis);
+    abi_station::tested(market::market(state, day, line, scan, wanted, at))
 }

@@ -1,4 +1,4 @@
--- What the exported station functions are asked, hand back and leave: the kinds of scan and basis by their numbers, the struct that is given and every
+-- What the exported station functions are asked, hand back and leave: the kinds of scan, of what is asked and of basis by their numbers, the struct that is given and every
 -- place; all values are 0 where refused.
 use Prim.Native.Nat.{ℕ, zero, suc}
 use mathlib.Core.List.{List}
@@ -11,6 +11,8 @@ use Rattle.reading.specs.declared.answer.Reading.the-variants.{Hundredths}
 use Rattle.station_rules.specs.Refusals.{numberOf}
 use Rattle.station_rules.specs.InPlace.{Left, openIn, sheetIn, repairIn, marketIn}
 use Rattle.station_rules.specs.declared.Scan.{Scan}
+use Rattle.station_rules.specs.declared.WheatClass.{WheatClass}
+use Rattle.station_rules.specs.declared.Asked.{Asked}
 use Rattle.station_rules.specs.declared.Basis.{Basis}
 use Rattle.station_rules.specs.declared.Refusal.the-variants.{BadFloat}
 use Rattle.station_rules.specs.declared.OpenAnswer.{OpenAnswer}
@@ -27,13 +29,22 @@ use Rattle.abi_station.specs.declared.GrainCertificate.{GrainCertificate
 
 -- ---- what is asked
 
--- kind 0 is wheat, 1 is corn, any other a fault (number 8)
+-- kind 0 is wheat, 1 is corn, 3 wheat with gluten, any other a fault (number 8)
 unfoldable pub scanOf : ℕ → Float → Float → Float → Scan
 scanOf zero first second third = Scan.Wheat first
 scanOf (suc zero) first second third = Scan.Corn (record { protein = first; oil = second; starch = third })
-scanOf (suc (suc kind)) first second third = Scan.Fault 0
+scanOf (suc (suc zero)) first second third = Scan.Fault 0
+scanOf (suc (suc (suc zero))) first second third = Scan.WheatGluten (record { protein = first; gluten = second })
+scanOf (suc (suc (suc (suc kind)))) first second third = Scan.Fault 0
 
--- kind 0 is standard, 1 dry, 2 specified, 3 as-is; any other is a basis of −1, which number 10 refuses
+-- kind 0 is the line's own figure, 1 gluten of Hard Red Winter, 2 of Hard Red Spring, any other gluten of another class (number 23)
+unfoldable pub askedOf : ℕ → Asked
+askedOf zero = Asked.LineFigure
+askedOf (suc zero) = Asked.Gluten WheatClass.HardRedWinter
+askedOf (suc (suc zero)) = Asked.Gluten WheatClass.HardRedSpring
+askedOf (suc (suc (suc kind))) = Asked.Gluten WheatClass.Other
+
+-- kind 0 is standard, 1 dry, 2 specified, 3 as-is; any other is a specified basis of −1, which number 10 refuses, or 24 where gluten is asked
 unfoldable pub basisFor : ℕ → ℤ → Basis
 basisFor zero b = Basis.Standard
 basisFor (suc zero) b = Basis.Dry
@@ -82,7 +93,7 @@ marketGiven (Certified c) =
 marketGiven (MarketAnswer.Refused r) =
     record { accepted = 0; number = numberOf r; day = 0; intercept = pos 0; basis = pos 0; figure = 0; converted = 0 }
 
-unfoldable pub marketCall : List ℤ → ℕ → ℕ → Scan → Basis → Left GrainCertificate
-marketCall words day line scan basis =
-    let left = marketIn words day line scan basis in
+unfoldable pub marketCall : List ℤ → ℕ → ℕ → Scan → Asked → Basis → Left GrainCertificate
+marketCall words day line scan asked basis =
+    let left = marketIn words day line scan asked basis in
     record { answer = marketGiven (left .answer); places = left .places }

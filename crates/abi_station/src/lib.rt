@@ -1,6 +1,7 @@
 // What the exported station functions are asked and hand back: kinds by their numbers, and small structs of 32-bit numbers.
 use abi_answers::GrainAnswer;
 use reading::Reading;
+use station_rules::Asked;
 use station_rules::Basis;
 use station_rules::Certificate;
 use station_rules::CornSet;
@@ -11,10 +12,12 @@ use station_rules::Refusal;
 use station_rules::RepairAnswer;
 use station_rules::Scan;
 use station_rules::SheetAnswer;
+use station_rules::WheatClass;
+use station_rules::WheatSet;
 ghost use mathlib.Core.Path.{_≡_};
 ghost use Rattle.station_rules.specs.declared.SheetAnswer.the-variants.{Accepted};
 ghost use Rattle.station_rules.specs.declared.MarketAnswer.the-variants.{Certified};
-ghost use Rattle.abi_station.specs.StationAnswers.{scanOf, basisFor, readingGiven, openGiven, repairGiven, sheetGiven, marketGiven};
+ghost use Rattle.abi_station.specs.StationAnswers.{scanOf, askedOf, basisFor, readingGiven, openGiven, repairGiven, sheetGiven, marketGiven};
 
 // accepted is 1 or 0, number the refusal's; then the hundredths.
 #[repr(C)]
@@ -54,6 +57,15 @@ const WHEAT_SCAN: u32 = 0;
 
 const CORN_SCAN: u32 = 1;
 
+const WHEAT_GLUTEN_SCAN: u32 = 3;
+
+// What may be asked for; any other number is gluten of another class.
+const LINE_FIGURE: u32 = 0;
+
+const GLUTEN_HARD_RED_WINTER: u32 = 1;
+
+const GLUTEN_HARD_RED_SPRING: u32 = 2;
+
 // The kinds of basis.
 const STANDARD_BASIS: u32 = 0;
 
@@ -63,7 +75,7 @@ const SPECIFIED_BASIS: u32 = 2;
 
 const AS_IS_BASIS: u32 = 3;
 
-// What a kind of basis that there isn't asks for: number 10 refuses it.
+// What a kind of basis that there isn't asks for: number 10 refuses it, or 24 where gluten is asked.
 const NO_BASIS: i32 = -1;
 
 pub fn scan_of(kind: u32, first: f32, second: f32, third: f32) -> Scan
@@ -76,7 +88,22 @@ pub fn scan_of(kind: u32, first: f32, second: f32, third: f32) -> Scan
             oil: second,
             starch: third,
         }),
+        WHEAT_GLUTEN_SCAN => Scan::WheatGluten(WheatSet {
+            protein: first,
+            gluten: second,
+        }),
         _ => Scan::Fault(0),
+    }
+}
+
+pub fn asked_of(kind: u32) -> Asked
+    ensures { λ r. ⌜ r ≡ askedOf kind ⌝ }
+{
+    match kind {
+        LINE_FIGURE => Asked::LineFigure,
+        GLUTEN_HARD_RED_WINTER => Asked::Gluten(WheatClass::HardRedWinter),
+        GLUTEN_HARD_RED_SPRING => Asked::Gluten(WheatClass::HardRedSpring),
+        _ => Asked::Gluten(WheatClass::Other),
     }
 }
 

@@ -1,10 +1,12 @@
 // A call on a station in its places, its answer printed, and the places that it leaves.
 use super::say;
 use super::sheets;
+use station_rules::Asked;
 use station_rules::Basis;
 use station_rules::CornSet;
 use station_rules::STATION_PLACES;
 use station_rules::Scan;
+use station_rules::WheatClass;
 
 // A station in its places.
 pub(crate) type Places = [i32; STATION_PLACES];
@@ -57,14 +59,36 @@ pub(crate) fn repair(s: Places, day: u32) -> Places {
 
 pub(crate) fn market(s: Places, day: u32, scan: Scan, basis: Basis) -> Places {
     let mut state = s;
-    let answer = market::market(&mut state, day, 0, scan, basis);
+    let answer = market::market(&mut state, day, 0, scan, Asked::LineFigure, basis);
     say::market(day, 0, answer);
+    state
+}
+
+// Gluten of a class asked for.
+pub(crate) fn gluten(
+    s: Places,
+    day: u32,
+    line: usize,
+    scan: Scan,
+    class: WheatClass,
+    basis: Basis,
+) -> Places {
+    let mut state = s;
+    let answer = market::market(&mut state, day, line, scan, Asked::Gluten(class), basis);
+    say::market(day, line, answer);
     state
 }
 
 pub(crate) fn corn_market(s: Places, day: u32, line: usize, set: CornSet) -> Places {
     let mut state = s;
-    let answer = market::market(&mut state, day, line, Scan::Corn(set), Basis::Standard);
+    let answer = market::market(
+        &mut state,
+        day,
+        line,
+        Scan::Corn(set),
+        Asked::LineFigure,
+        Basis::Standard,
+    );
     say::market(day, line, answer);
     state
 }

@@ -1,5 +1,6 @@
 // The cases that carry no star, each number of refusal once, and whole lists of calls: each call is run, and its answer printed.
 mod calls;
+mod gluten;
 mod lists;
 mod numbers;
 mod say;
@@ -15,6 +16,10 @@ fn main() {
     numbers::sizes();
     numbers::sheet_numbers();
     numbers::lines(numbers::scans());
+    gluten::intercepts();
+    gluten::derived();
+    gluten::scans();
+    gluten::numbers();
     lists::repaired(lists::adjusted());
     lists::shut_by_none();
     lists::shut_by_bound();

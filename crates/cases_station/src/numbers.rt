@@ -1,4 +1,4 @@
-// Each number of refusal once, 0 to 14 in their order.
+// Each number of refusal once, 0 to 14 in their order; 23 and 24 are among the cases of gluten.
 use super::calls;
 use super::calls::Places;
 use super::say;

@@ -17,10 +17,10 @@ abbrev pub answerBy : Option ℕ → Certificate → MarketAnswer
 answerBy none c = Certified c
 answerBy (some number) c = Refused (refusalOf number)
 
--- the certificate by A, the line's values, B and h
-abbrev pub certificateBy : ℕ → Values → ℤ → ℤ → Certificate
-certificateBy a v b h =
-    record { day = newestDay (v .past); intercept = v .intercept; basis = b; figure = tenths (natAbs h); converted = tenthsAt a (natAbs b) (natAbs h) }
+-- the certificate by A, the line's values, the intercept, B and h
+abbrev pub certificateBy : ℕ → Values → ℤ → ℤ → ℤ → Certificate
+certificateBy a v i b h =
+    record { day = newestDay (v .past); intercept = i; basis = b; figure = tenths (natAbs h); converted = tenthsAt a (natAbs b) (natAbs h) }
 
 -- numbers 12 to 14, by A, the line's values, the day, B and h
 abbrev pub lastChecks : ℕ → Values → ℕ → ℤ → ℤ → List (Check ℕ)
@@ -30,5 +30,5 @@ lastChecks a v day b h =
     ∷ record { answer = 14; applies = tooHigh a (natAbs b) (natAbs h) }
     ∷ []
 
-unfoldable pub certifiedOf : ℕ → Values → ℕ → ℤ → ℤ → MarketAnswer
-certifiedOf a v day b h = answerBy (firstNumber (lastChecks a v day b h)) (certificateBy a v b h)
+unfoldable pub certifiedOf : ℕ → Values → ℕ → ℤ → ℤ → ℤ → MarketAnswer
+certifiedOf a v day i b h = answerBy (firstNumber (lastChecks a v day b h)) (certificateBy a v i b h)

@@ -11,6 +11,7 @@ ghost use mathlib.Core.Bool.{true};
 ghost use Prim.Native.Nat.{_<_};
 ghost use Rattle.station_rules.specs.Held.{phaseWord, lineValues};
 ghost use Rattle.station_rules.specs.Markets.{isOpen, within};
+ghost use Rattle.whole.specs.Parts.{Within};
 ghost use Rattle.line.specs.Ranges.{LineFits};
 ghost use Rattle.market_certificate.specs.Certified.{certifiedOf};
 
@@ -20,11 +21,11 @@ fn is_open(phase: u32) -> bool
     phase == OPEN_LINE
 }
 
-// By the basis B and the corrected value h.
-pub fn certify(a: u32, l: Line, day: u32, b: Int, h: Int) -> MarketAnswer
-    requires { ⌜ (a < 10000) × (LineFits l) ⌝ }
+// By the intercept i, the basis B and the corrected value h.
+pub fn certify(a: u32, l: Line, day: u32, i: Int, b: Int, h: Int) -> MarketAnswer
+    requires { ⌜ (a < 10000) × ((LineFits l) × (Within 20000000 20000000 (i .z))) ⌝ }
     requires { ⌜ (within 0 5000 (b .z) ≡ true) × (within 0 10000 (h .z) ≡ true) ⌝ }
-    ensures { λ r. ⌜ r ≡ certifiedOf a (lineValues l) day (b .z) (h .z) ⌝ }
+    ensures { λ r. ⌜ r ≡ certifiedOf a (lineValues l) day (i .z) (b .z) (h .z) ⌝ }
 {
     if !is_open(l.phase) {
         return MarketAnswer::Refused(Refusal::NotOpen);
@@ -41,7 +42,7 @@ pub fn certify(a: u32, l: Line, day: u32, b: Int, h: Int) -> MarketAnswer
     }
     MarketAnswer::Certified(Certificate {
         day: newest,
-        intercept: l.intercept,
+        intercept: i.z,
         basis: b.z,
         figure: market_figures::in_tenths(value),
         converted: market_figures::in_tenths_at(a, basis, value),

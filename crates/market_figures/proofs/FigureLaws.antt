@@ -1,23 +1,13 @@
--- Ranges of the basis, the corrected value and their product, and the newest set's day.
+-- The range of a value times a basis' part, and the newest set's day.
 use mathlib.Core.Path.{_≡_, refl, sym, ap}
-use mathlib.Core.Bool.{true, _&&_, true≢false}
 use mathlib.Core.List.{List, [], _∷_}
 use Prim.Native.Nat.{ℕ, zero, suc, _*_, _-_, _≤_}
 use native.Mathlib.Nat.{le-trans, mul-le-mul-left, mul-le-mul-right}
 use native.Mathlib.Omega.{arith}
-use lib.Dec.{leb, leb→le}
-use lib.IntN.{ℤ, pos, negsuc}
 use lib.ListN.{length, take, getD}
-use Rattle.whole.specs.Parts.{Within}
-use Rattle.whole.proofs.Tests.{and-r, of-true}
 use Rattle.station_rules.specs.Held.{noSet}
-use Rattle.station_rules.specs.Markets.{newestDay, within}
+use Rattle.station_rules.specs.Markets.{newestDay}
 use Rattle.station_rules.specs.declared.PastSet.{PastSet}
-
--- a value of 0..n
-pub in-range : (n : ℕ) (z : ℤ) → within 0 n z ≡ true → Within 0 n z
-in-range n (pos m) e = let h = leb→le m n (and-r (leb 0 m) (leb m n) (of-true (leb 0 m && leb m n) e)) in omega arith
-in-range n (negsuc m) e = absurd (true≢false (sym e))
 
 pub product-most : (h b : ℕ) → h ≤ 10000 → h * (10000 - b) ≤ 100000000
 product-most h b k = le-trans (mul-le-mul-left h (omega arith)) (mul-le-mul-right 10000 k)

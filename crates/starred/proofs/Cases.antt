@@ -5,10 +5,10 @@ use lib.Ieee.{ofBits}
 use Rattle.reading.specs.Reading.{unitsOf, inRange, readingOf, answerOf}
 use Rattle.whole.specs.Rounding.{roundedAway}
 use Rattle.station_rules.specs.Rows.{rowOf, samples, standardBasis, lineCount, limitsOf}
-use Rattle.station_rules.specs.Readings.{scanFits, lineFloat}
+use Rattle.station_rules.specs.Readings.{scanFits, lineFloat, scanServes, askedFloat}
 use Rattle.station_rules.specs.Sheets.{samplesOf, wrongNumber, spread, closer, closestPair, thirdDue, usedPair, firstDeviation, againRound, finalDeviation, keptSamples, setOf, sheetChecks}
 use Rattle.station_rules.specs.Lines.{validOn, sameSide, averagesDue, testsBy, verdictOf}
-use Rattle.station_rules.specs.Markets.{correctedValue, tooHigh, tenths, tenthsAt, marketChecks, certificateOf}
+use Rattle.station_rules.specs.Markets.{basisFrom, askedIntercept, otherClass, otherBasis, correctedValue, tooHigh, tenths, tenthsAt, marketChecks, certificateOf}
 use Rattle.station_rules.specs.Judging.{sheetNumbers, marketNumbers, sheetSet, sheetVerdict}
 use Rattle.station_rules.specs.Soundness.{soundLine, sound}
 use Rattle.station_rules.specs.Stations.{sheetStation, outcomeOf, sheetOf, marketOf}
@@ -24,5 +24,5 @@ use Rattle.station_rules.specs.Cases.{Case}
 use Rattle.starred.specs.Cases.{starred}
 
 pub starred-hold : map (λ (c : Case). c .gives) starred ≡ map (λ (c : Case). c .says) starred
-unfolding starred ofBits unitsOf inRange readingOf answerOf rowOf samples standardBasis lineCount limitsOf scanFits lineFloat samplesOf wrongNumber spread closer closestPair thirdDue usedPair firstDeviation againRound finalDeviation keptSamples setOf sheetChecks validOn sameSide averagesDue testsBy roundedAway verdictOf correctedValue tooHigh tenths tenthsAt marketChecks certificateOf sheetNumbers marketNumbers sheetSet sheetVerdict soundLine sound sheetStation outcomeOf sheetOf marketOf badWeek badSize outside badResult chartSetOf soundSet chartRows.limitsOf absolute atOrAbove atOrBelow tolerance rangeTolerance oneSide sixtieths runBy run soundChart nextChart valuesOf refusalOf decided accepted resultOf
+unfolding starred ofBits unitsOf inRange readingOf answerOf rowOf samples standardBasis lineCount limitsOf scanFits lineFloat scanServes askedFloat samplesOf wrongNumber spread closer closestPair thirdDue usedPair firstDeviation againRound finalDeviation keptSamples setOf sheetChecks validOn sameSide averagesDue testsBy roundedAway verdictOf basisFrom askedIntercept otherClass otherBasis correctedValue tooHigh tenths tenthsAt marketChecks certificateOf sheetNumbers marketNumbers sheetSet sheetVerdict soundLine sound sheetStation outcomeOf sheetOf marketOf badWeek badSize outside badResult chartSetOf soundSet chartRows.limitsOf absolute atOrAbove atOrBelow tolerance rangeTolerance oneSide sixtieths runBy run soundChart nextChart valuesOf refusalOf decided accepted resultOf
 starred-hold = refl

@@ -22,5 +22,7 @@ pub fn number(r: Refusal) -> u32
         Refusal::NotOpen => 12,
         Refusal::OldSet => 13,
         Refusal::TooHigh => 14,
+        Refusal::GlutenClass => 23,
+        Refusal::GlutenBasis => 24,
     }
 }

@@ -32,6 +32,7 @@ use Rattle.station_rules.specs.declared.OpenAnswer.{OpenAnswer}
 use Rattle.station_rules.specs.declared.Outcome.{Outcome}
 use Rattle.station_rules.specs.declared.Certificate.{Certificate}
 use Rattle.station_rules.specs.declared.Scan.{Scan}
+use Rattle.station_rules.specs.declared.Asked.{Asked}
 use Rattle.station_rules.specs.declared.Basis.{Basis}
 use Rattle.station_rules.specs.declared.Line.{Line}
 use Rattle.station_rules.specs.declared.Set.{Set}
@@ -48,23 +49,23 @@ use Rattle.station_rules.proofs.Invariant.{LineAgrees, later-line, line
 
 -- ---- a station's call, as a number or what it comes to when accepted
 
-checksOf : Station → Call → List (Check ℕ)
+unfoldable pub checksOf : Station → Call → List (Check ℕ)
 checksOf s (sheetCall day line numbers) = soundCheck s ∷ sheetNumbers (s .row) (s .day) (valuesOf s line) day line numbers
 checksOf s (repairCall day) = soundCheck s ∷ repairNumbers (s .day) day
-checksOf s (marketCall day line scan basis) = soundCheck s ∷ marketNumbers (s .row) (s .day) (valuesOf s line) day line scan basis
+checksOf s (marketCall day line scan asked basis) = soundCheck s ∷ marketNumbers (s .row) (s .day) (valuesOf s line) day line scan asked basis
 
 nextOf : Station → Call → Station
 nextOf s (sheetCall day line numbers) = sheetStation s day line numbers
 nextOf s (repairCall day) = repairStation s day
-nextOf s (marketCall day line scan basis) = marketStation s day
+nextOf s (marketCall day line scan asked basis) = marketStation s day
 
-grantedOf : Station → Call → Reply
+unfoldable pub grantedOf : Station → Call → Reply
 grantedOf s (sheetCall day line numbers) =
     let o = outcomeOf s day line numbers in
     outcome (o .sum) (o .count) (phaseWord (o .phase)) (o .change)
 grantedOf s (repairCall day) = repaired
-grantedOf s (marketCall day line scan basis) =
-    let c = certificateOf (s .row) (valuesOf s line) line scan basis in
+grantedOf s (marketCall day line scan asked basis) =
+    let c = certificateOf (s .row) (valuesOf s line) line scan asked basis in
     certificate (c .day) (c .intercept) (c .basis) (c .figure) (c .converted)
 
 orStays : Option ℕ → Station → Station → Station
@@ -76,7 +77,7 @@ all-known : (s : Station) (c : Call) → T (all (λ k. hasRefusal (k .answer)) (
 unfolding checksOf sheetNumbers sheetChecks marketNumbers marketChecks
 all-known s (sheetCall day line numbers) = tt
 all-known s (repairCall day) = tt
-all-known s (marketCall day line scan basis) = tt
+all-known s (marketCall day line scan asked basis) = tt
 
 module _ (s next : Station) (outcome : Outcome) where
   sheet-station : (o : Option ℕ) → sheetResult o s next outcome .station ≡ orStays o s next
@@ -115,11 +116,11 @@ unfolding stationAfter checksOf nextOf sheetOf repairOf marketOf
 station-is s (sheetCall day line numbers) =
     sheet-station s (sheetStation s day line numbers) (outcomeOf s day line numbers) (firstNumber (checksOf s (sheetCall day line numbers)))
 station-is s (repairCall day) = repair-station s (nextOf s (repairCall day)) (firstNumber (checksOf s (repairCall day)))
-station-is s (marketCall day line scan basis) =
-    market-station s (nextOf s (marketCall day line scan basis)) (certificateOf (s .row) (valuesOf s line) line scan basis)
-    (firstNumber (checksOf s (marketCall day line scan basis)))
+station-is s (marketCall day line scan asked basis) =
+    market-station s (nextOf s (marketCall day line scan asked basis)) (certificateOf (s .row) (valuesOf s line) line scan asked basis)
+    (firstNumber (checksOf s (marketCall day line scan asked basis)))
 
-reply-is : (s : Station) (c : Call) → stationReply s c ≡ orRefused (firstNumber (checksOf s c)) (grantedOf s c)
+pub reply-is : (s : Station) (c : Call) → stationReply s c ≡ orRefused (firstNumber (checksOf s c)) (grantedOf s c)
 unfolding stationReply checksOf nextOf grantedOf sheetOf repairOf marketOf
 reply-is s (sheetCall day line numbers) =
     let cs = checksOf s (sheetCall day line numbers) in
@@ -128,10 +129,10 @@ reply-is s (sheetCall day line numbers) =
 reply-is s (repairCall day) =
     let cs = checksOf s (repairCall day) in
     repair-reply s (nextOf s (repairCall day)) (firstNumber cs) (λ n. known-number cs n (all-known s (repairCall day)))
-reply-is s (marketCall day line scan basis) =
-    let cs = checksOf s (marketCall day line scan basis) in
-    market-reply s (nextOf s (marketCall day line scan basis)) (certificateOf (s .row) (valuesOf s line) line scan basis) (firstNumber cs)
-    (λ n. known-number cs n (all-known s (marketCall day line scan basis)))
+reply-is s (marketCall day line scan asked basis) =
+    let cs = checksOf s (marketCall day line scan asked basis) in
+    market-reply s (nextOf s (marketCall day line scan asked basis)) (certificateOf (s .row) (valuesOf s line) line scan asked basis) (firstNumber cs)
+    (λ n. known-number cs n (all-known s (marketCall day line scan asked basis)))
 
 -- ---- the invariant
 
@@ -170,10 +171,10 @@ module _ (b : Book) (ls : List Line) (a : Agrees ls b) where
       ∙ ap (λ (w : Values). firstNumber (sheetNumbers (b .row) (b .day) w day line numbers)) (a .lines line .same)
       ∙ ap firstNumber (numbers-four (b .row) (bookValues line (b .entries)) day line (b .day) numbers)
   number-same (repairCall day) = passed (repairNumbers (b .day) day)
-  number-same (marketCall day line scan basis) =
-      passed (marketNumbers (b .row) (b .day) (valuesOf (stationOf b ls) line) day line scan basis)
-      ∙ ap (λ (w : Values). firstNumber (marketNumbers (b .row) (b .day) w day line scan basis)) (a .lines line .same)
-      ∙ ap firstNumber (market-numbers-four (b .row) (bookValues line (b .entries)) day line scan basis (b .day))
+  number-same (marketCall day line scan asked basis) =
+      passed (marketNumbers (b .row) (b .day) (valuesOf (stationOf b ls) line) day line scan asked basis)
+      ∙ ap (λ (w : Values). firstNumber (marketNumbers (b .row) (b .day) w day line scan asked basis)) (a .lines line .same)
+      ∙ ap firstNumber (market-numbers-four (b .row) (bookValues line (b .entries)) day line scan asked basis (b .day))
 
   set-path : (day line : ℕ) (numbers : List ℤ)
       → sheetSet (b .row) (valuesOf (stationOf b ls) line) day line numbers ≡ sheetSet (b .row) (bookValues line (b .entries)) day line numbers
@@ -206,10 +207,10 @@ module _ (b : Book) (ls : List Line) (a : Agrees ls b) where
   granted-same (sheetCall day line numbers) =
       λ i. outcome (set-path day line numbers i .sum) (set-path day line numbers i .count) (phase-path day line numbers i) (verdict-path day line numbers i .change)
   granted-same (repairCall day) = refl
-  granted-same (marketCall day line scan basis) =
+  granted-same (marketCall day line scan asked basis) =
       ap (λ (c : Certificate). certificate (c .day) (c .intercept) (c .basis) (c .figure) (c .converted))
-      (ap (λ (w : Values). certificateOf (b .row) w line scan basis) (a .lines line .same)
-      ∙ certificate-four (b .row) (bookValues line (b .entries)) day line scan basis)
+      (ap (λ (w : Values). certificateOf (b .row) w line scan asked basis) (a .lines line .same)
+      ∙ certificate-four (b .row) (bookValues line (b .entries)) day line scan asked basis)
 
 -- ---- what no number leaves
 
@@ -354,10 +355,10 @@ module _ (b : Book) (ls : List Line) (a : Agrees ls b) where
         };
       }
 
-  market-next : (day line : ℕ) (scan : Scan) (basis : Basis) → bookNumber b (marketCall day line scan basis) ≡ none → Next b ls (marketCall day line scan basis)
+  market-next : (day line : ℕ) (scan : Scan) (asked : Asked) (basis : Basis) → bookNumber b (marketCall day line scan asked basis) ≡ none → Next b ls (marketCall day line scan asked basis)
   unfolding nextOf accepted bookNumber marketNumbers
-  market-next day line scan basis e =
-      let d = day-ok (b .day) day (lineCheck (b .row) line ∷ marketChecks (b .row) (bookValues line (b .entries)) line scan basis day) e in
+  market-next day line scan asked basis e =
+      let d = day-ok (b .day) day (lineCheck (b .row) line ∷ marketChecks (b .row) (bookValues line (b .entries)) line scan asked basis day) e in
       record {
         lines = ls;
         station = refl;
@@ -372,7 +373,7 @@ module _ (b : Book) (ls : List Line) (a : Agrees ls b) where
   next : (c : Call) → bookNumber b c ≡ none → Next b ls c
   next (sheetCall day line numbers) e = sheet-next day line numbers e
   next (repairCall day) e = repair-next day e
-  next (marketCall day line scan basis) e = market-next day line scan basis e
+  next (marketCall day line scan asked basis) e = market-next day line scan asked basis e
 
 -- ---- one call
 

@@ -34,7 +34,7 @@ accepted-change line b (sheetCall day l numbers) = go (eqb l line)
     go true = refl
     go false = sym (+ℤ-idl (bookIntercept line (b .entries)))
 accepted-change line b (repairCall day) = sym (+ℤ-idl (bookIntercept line (b .entries)))
-accepted-change line b (marketCall day l scan basis) = sym (+ℤ-idl (bookIntercept line (b .entries)))
+accepted-change line b (marketCall day l scan asked basis) = sym (+ℤ-idl (bookIntercept line (b .entries)))
 
 -- a call's change is added
 call-change : (line : ℕ) (b : Book) (c : Call)
@@ -73,7 +73,7 @@ accepted-row : (b : Book) (c : Call) → accepted b c .row ≡ b .row
 unfolding accepted
 accepted-row b (sheetCall day line numbers) = refl
 accepted-row b (repairCall day) = refl
-accepted-row b (marketCall day line scan basis) = refl
+accepted-row b (marketCall day line scan asked basis) = refl
 
 row-after : (b : Book) (c : Call) → bookAfter b c .row ≡ b .row
 unfolding bookAfter

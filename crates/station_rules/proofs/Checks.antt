@@ -47,7 +47,20 @@ number-passes p (c ∷ cs) n t e = go (c .applies) e (number-passes p cs n (and-
     go true e f = let q : c .answer ≡ n = cc in subst (λ (k : ℕ). T (p k)) q (and-l (p (c .answer)) (all (λ c. p (c .answer)) cs) t)
     go false e f = f e
 
--- a number of 0 to 14 has a refusal, whose number it is
+-- a check that applies, none before it applying, passes a test
+abbrev pub Passes : (ℕ → Bool) → List (Check ℕ) → Type 0
+Passes p [] = Unit {0}
+Passes p (c ∷ cs) = (c .applies ≡ true → T (p (c .answer))) × (c .applies ≡ false → Passes p cs)
+
+pub first-passes : (p : ℕ → Bool) (cs : List (Check ℕ)) (n : ℕ) → Passes p cs → firstNumber cs ≡ some n → T (p n)
+first-passes p [] n t e = let z : _≡_ {A = ℕ} 0 1 = cc in absurd (omega arith)
+first-passes p (c ∷ cs) n t e = go (c .applies) refl e (first-passes p cs n)
+  where
+    go : (a : Bool) → c .applies ≡ a → cond a (some (c .answer)) (firstNumber cs) ≡ some n → (Passes p cs → firstNumber cs ≡ some n → T (p n)) → T (p n)
+    go true f e g = let q : c .answer ≡ n = cc in subst (λ (k : ℕ). T (p k)) q (t .0 f)
+    go false f e g = g (t .1 f) e
+
+-- the number is that of a refusal
 abbrev pub hasRefusal : ℕ → Bool
 hasRefusal n = eqb (numberOf (refusalOf n)) n
 

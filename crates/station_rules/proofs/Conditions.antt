@@ -1,5 +1,5 @@
 -- The book certifies a market test exactly when the market conditions hold, and they rest on a recent sheet that met.
-use mathlib.Core.Path.{_≡_, refl, _∙_, ap}
+use mathlib.Core.Path.{_≡_, refl, sym, _∙_, ap}
 use mathlib.Core.Bool.{Bool, true, false, not, _||_, cond}
 use mathlib.Core.List.{List, [], _∷_}
 use mathlib.Core.Option.{Option, none, some}
@@ -9,11 +9,11 @@ use lib.Dec.{T, eqb, leb, ltb, leb→le, ltb→lt, lt→ltb}
 use lib.IntN.{ℤ, pos, _+ℤ_}
 use lib.Signed.{leZ, _≤ℤ_, leZ-yes}
 use borrow.Author.Tests.{ltb-false, le-ltb}
-use Rattle.station_rules.specs.Rows.{standardBasis, lineCount}
+use Rattle.station_rules.specs.Rows.{lineCount}
 use Rattle.reading.specs.Reading.{readingOf, inRange}
-use Rattle.station_rules.specs.Readings.{scanFits, lineFloat}
+use Rattle.station_rules.specs.Readings.{scanServes, askedFloat}
 use Rattle.station_rules.specs.Markets as markets
-use Rattle.station_rules.specs.Markets.{basisOf, newestDay, within, tooHigh, correctedValue, marketChecks}
+use Rattle.station_rules.specs.Markets.{basisOf, basisFrom, askedIntercept, otherClass, otherBasis, newestDay, within, tooHigh, correctedValue, marketChecks}
 use Rattle.station_rules.specs.Judging.{marketNumbers}
 use Rattle.station_rules.specs.Soundness.{daysFall}
 use Rattle.station_rules.specs.Lines.{LinePhase, newLine, openLine, checkDueLine}
@@ -21,7 +21,12 @@ use Rattle.station_rules.specs.Calls.{marketCall}
 use Rattle.station_rules.specs.Books.{Book, SheetEntry, Entry, sheetEntry, repairEntry, sheetsOf, newestTouching, isMetSheet, newestUnmet, bookIntercept, bookPhase, bookPast, bookValues, bookNumber}
 use Rattle.station_rules.specs.Demand3.{MarketConditions, RestsOn}
 use Rattle.station_rules.specs.declared.Scan.{Scan}
+use Rattle.station_rules.specs.declared.WheatClass.{WheatClass}
+use Rattle.station_rules.specs.declared.WheatClass.the-variants.{HardRedWinter, HardRedSpring, Other}
+use Rattle.station_rules.specs.declared.Asked.{Asked}
+use Rattle.station_rules.specs.declared.Asked.the-variants.{LineFigure, Gluten}
 use Rattle.station_rules.specs.declared.Basis.{Basis}
+use Rattle.station_rules.specs.declared.Basis.the-variants.{Standard, Dry, Specified, AsIs}
 use Rattle.station_rules.specs.declared.PastSet.{PastSet}
 use Rattle.whole.proofs.Tests.{and-l, and-r, and-i, to-true, or-none, not-false-T}
 use Rattle.station_rules.proofs.Checks.{none-applies, no-number}
@@ -44,53 +49,91 @@ open-from newLine e = let q : _≡_ {A = ℕ} 0 1 = cc in absurd (omega arith)
 open-from openLine e = refl
 open-from checkDueLine e = let q : _≡_ {A = ℕ} 0 1 = cc in absurd (omega arith)
 
+-- number 23: gluten is not asked with another class
+class-from : (asked : Asked) → otherClass asked ≡ false → asked ≡ Gluten Other → ⊥
+unfolding otherClass
+class-from asked e q =
+    let z : true ≡ false = sym (ap otherClass q) ∙ e in
+    let y : _≡_ {A = ℕ} 0 1 = cc in
+    omega arith
+
+class-to : (asked : Asked) → (asked ≡ Gluten Other → ⊥) → otherClass asked ≡ false
+unfolding otherClass
+class-to LineFigure f = refl
+class-to (Gluten HardRedWinter) f = refl
+class-to (Gluten HardRedSpring) f = refl
+class-to (Gluten Other) f = absurd (f refl)
+
+-- number 24: gluten is asked with the standard basis
+pub basis-from : (asked : Asked) (basis : Basis) → otherBasis asked basis ≡ false → (class : WheatClass) → asked ≡ Gluten class → basis ≡ Standard
+unfolding otherBasis
+basis-from LineFigure basis e class q = let y : _≡_ {A = ℕ} 0 1 = cc in absurd (omega arith)
+basis-from (Gluten c) Standard e class q = refl
+basis-from (Gluten c) Dry e class q = let y : _≡_ {A = ℕ} 0 1 = cc in absurd (omega arith)
+basis-from (Gluten c) (Specified b) e class q = let y : _≡_ {A = ℕ} 0 1 = cc in absurd (omega arith)
+basis-from (Gluten c) (AsIs moisture) e class q = let y : _≡_ {A = ℕ} 0 1 = cc in absurd (omega arith)
+
+basis-to : (asked : Asked) (basis : Basis) → ((class : WheatClass) → asked ≡ Gluten class → basis ≡ Standard) → otherBasis asked basis ≡ false
+unfolding otherBasis
+basis-to LineFigure basis f = refl
+basis-to (Gluten c) basis f = ap (otherBasis (Gluten c)) (f c refl)
+
 or-false : (a b : Bool) → a ≡ false → b ≡ false → (a || b) ≡ false
 or-false a b p q = rw (p, q)
 
-module _ (b : Book) (day line : ℕ) (scan : Scan) (basis : Basis) where
+module _ (b : Book) (day line : ℕ) (scan : Scan) (asked : Asked) (basis : Basis) where
   -- no number applies: the conditions hold
-  pub conditions-from : bookNumber b (marketCall day line scan basis) ≡ none → MarketConditions b day line scan basis
+  pub conditions-from : bookNumber b (marketCall day line scan asked basis) ≡ none → MarketConditions b day line scan asked basis
   unfolding bookNumber marketNumbers marketChecks correctedValue tooHigh bookValues
   conditions-from e =
-      let f = none-applies (marketNumbers (b .row) (b .day) (bookValues line (b .entries)) day line scan basis) e in
+      let f = none-applies (marketNumbers (b .row) (b .day) (bookValues line (b .entries)) day line scan asked basis) e in
       let d = or-none (ltb day (b .day)) (ltb 99999 day) (f .0) in
-      let i = within-from 0 5000 (basisOf (standardBasis (b .row)) basis) (f .1 .1 .1 .1 .0) in
-      let h = within-from 0 10000 (pos (readingOf (lineFloat scan line)) +ℤ bookIntercept line (b .entries)) (f .1 .1 .1 .1 .1 .0) in
+      let g = f .1 .1 .1 .1 in
+      let i = within-from 0 5000 (basisOf (basisFrom (b .row) asked) basis) (g .1 .1 .0) in
+      let h = within-from 0 10000 (pos (readingOf (askedFloat scan asked line)) +ℤ askedIntercept asked (bookIntercept line (b .entries))) (g .1 .1 .1 .0) in
       record {
         number2 = (ltb-false day (b .day) (d .0), ltb-false 99999 day (d .1));
         number3 = ltb→lt line (lineCount (b .row)) (not-false-T (ltb line (lineCount (b .row))) (f .1 .0));
-        number8 = not-false-T (scanFits (b .row) scan) (f .1 .1 .0);
-        number9 = not-false-T (inRange (lineFloat scan line)) (f .1 .1 .1 .0);
+        number8 = not-false-T (scanServes (b .row) scan asked) (f .1 .1 .0);
+        number23 = class-from asked (f .1 .1 .1 .0);
+        number24 = basis-from asked basis (g .0);
+        number9 = not-false-T (inRange (askedFloat scan asked line)) (g .1 .0);
         number10 = i;
         number11 = h;
-        number12 = open-from (bookPhase line (b .entries)) (f .1 .1 .1 .1 .1 .1 .0);
-        number13 = ltb-false (newestDay (bookPast line (b .entries)) + 7) day (f .1 .1 .1 .1 .1 .1 .1 .0);
-        number14 = ltb-false _ _ (f .1 .1 .1 .1 .1 .1 .1 .1 .0);
+        number12 = open-from (bookPhase line (b .entries)) (g .1 .1 .1 .1 .0);
+        number13 = ltb-false (newestDay (bookPast line (b .entries)) + 7) day (g .1 .1 .1 .1 .1 .0);
+        number14 = ltb-false _ _ (g .1 .1 .1 .1 .1 .1 .0);
       }
 
   -- the conditions hold: no number applies
-  pub conditions-to : MarketConditions b day line scan basis → bookNumber b (marketCall day line scan basis) ≡ none
+  pub conditions-to : MarketConditions b day line scan asked basis → bookNumber b (marketCall day line scan asked basis) ≡ none
   unfolding bookNumber marketNumbers marketChecks correctedValue tooHigh bookValues
   conditions-to c =
-      no-number (marketNumbers (b .row) (b .day) (bookValues line (b .entries)) day line scan basis) (
+      no-number (marketNumbers (b .row) (b .day) (bookValues line (b .entries)) day line scan asked basis) (
         or-false (ltb day (b .day)) (ltb 99999 day) (le-ltb day (b .day) (c .number2 .0)) (le-ltb 99999 day (c .number2 .1)),
         (
           not-true (ltb line (lineCount (b .row))) (lt→ltb line (lineCount (b .row)) (c .number3)),
           (
-            not-true (scanFits (b .row) scan) (c .number8),
+            not-true (scanServes (b .row) scan asked) (c .number8),
             (
-              not-true (inRange (lineFloat scan line)) (c .number9),
+              class-to asked (c .number23),
               (
-                within-to 0 5000 (basisOf (standardBasis (b .row)) basis) (c .number10 .0) (c .number10 .1),
+                basis-to asked basis (c .number24),
                 (
-                  within-to 0 10000 (pos (readingOf (lineFloat scan line)) +ℤ bookIntercept line (b .entries)) (c .number11 .0) (c .number11 .1),
+                  not-true (inRange (askedFloat scan asked line)) (c .number9),
                   (
-                    ap (λ (p : LinePhase). not (markets.isOpen p)) (c .number12),
+                    within-to 0 5000 (basisOf (basisFrom (b .row) asked) basis) (c .number10 .0) (c .number10 .1),
                     (
-                      le-ltb (newestDay (bookPast line (b .entries)) + 7) day (c .number13),
+                      within-to 0 10000 (pos (readingOf (askedFloat scan asked line)) +ℤ askedIntercept asked (bookIntercept line (b .entries))) (c .number11 .0) (c .number11 .1),
                       (
-                        le-ltb _ _ (c .number14),
-                        tt,
+                        ap (λ (p : LinePhase). not (markets.isOpen p)) (c .number12),
+                        (
+                          le-ltb (newestDay (bookPast line (b .entries)) + 7) day (c .number13),
+                          (
+                            le-ltb _ _ (c .number14),
+                            tt,
+                          ),
+                        ),
                       ),
                     ),
                   ),
@@ -136,10 +179,10 @@ newest-le d [] t = omega arith
 newest-le d (p ∷ ps) t = leb→le (p .day) d (and-l (leb (p .day) d) (daysFall (p .day) ps) t)
 
 -- the conditions rest on the newest sheet or repair touching the line: a sheet that met, at most 7 days earlier
-pub rests-on : (b : Book) (day line : ℕ) (scan : Scan) (basis : Basis) → T (daysFall (b .day) (bookPast line (b .entries)))
-    → MarketConditions b day line scan basis → RestsOn b day line
+pub rests-on : (b : Book) (day line : ℕ) (scan : Scan) (asked : Asked) (basis : Basis) → T (daysFall (b .day) (bookPast line (b .entries)))
+    → MarketConditions b day line scan asked basis → RestsOn b day line
 unfolding bookPhase
-rests-on b day line scan basis falls c =
+rests-on b day line scan asked basis falls c =
     let f = met-entry (newestTouching line (b .entries))
     (open-met (isMetSheet (newestTouching line (b .entries))) (newestUnmet (sheetsOf line (b .entries))) (c .number12)) in
     let n : newestDay (bookPast line (b .entries)) ≡ f .0 .day = newest-past line (b .entries) (f .0) (f .1) (f .2) in

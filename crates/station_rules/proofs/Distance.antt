@@ -1,21 +1,21 @@
 -- A certificate's figure at a basis lies within its distance of the exact value.
-use mathlib.Core.Path.{_≡_, refl, sym, _∙_, ap}
+use mathlib.Core.Path.{_≡_, refl, sym, _∙_, ap, subst}
 use Prim.Native.Nat.{ℕ, zero, suc, _+_, _-_, _*_, _/_, _≤_, _<_}
-use native.Mathlib.Nat.{mul-comm, mul-assoc, mul-left-comm, mul-add, add-mul, mul-le-mul-left, mul-le-mul-right, mul-zero, zero-mul, div-add-mod', mod-lt}
+use native.Mathlib.Nat.{mul-comm, mul-assoc, mul-left-comm, mul-add, add-mul, mul-le-mul-left, mul-le-mul-right, mul-zero, zero-mul, mul-one, div-add-mod', mod-lt}
 use native.Mathlib.Omega.{arith}
 use lib.Dec.{lit<}
-use lib.IntN.{ℤ, pos, negsuc, negℤ, natAbs, _+ℤ_, _-ℤ_, _*ℤ_, pos-ne-negsuc}
+use lib.IntN.{ℤ, pos, negsuc, negℤ, natAbs, _+ℤ_, _-ℤ_, _*ℤ_, one, pos-ne-negsuc, *ℤ-one}
 use lib.Ieee.{Float}
 use Rattle.reading.specs.Reading.{unit, unitsOf, readingOf}
-use Rattle.station_rules.specs.Markets.{tenthsAt}
-use Rattle.station_rules.specs.Demand3.{WithinDistance}
+use Rattle.station_rules.specs.Markets.{derivedIntercept, tenths, tenthsAt}
+use Rattle.station_rules.specs.Demand3.{WithinDistance, WithinGluten}
 use Rattle.station_rules.proofs.Magnitudes.{sub-cases}
 
 -- ---- division: q * d ≤ n ≤ q * d + d
-div-below : (n d : ℕ) → n / d * d ≤ n
+pub div-below : (n d : ℕ) → n / d * d ≤ n
 div-below n d = omega (arith, div-add-mod' n d)
 
-div-above : (n d : ℕ) → 0 < d → n ≤ n / d * d + d
+pub div-above : (n d : ℕ) → 0 < d → n ≤ n / d * d + d
 div-above n d h = omega (arith, div-add-mod' n d, mod-lt n h)
 
 -- ---- the inequalities over the naturals. The sum of changes is p − m, and h is k.
@@ -158,3 +158,32 @@ roundings x a b k h =
 pub within : (x : Float) (a b k : ℕ) (sum : ℤ) → 0 < 10000 - a → pos (readingOf x) +ℤ sum ≡ pos k → WithinDistance a b (tenthsAt a b k) x sum
 within x a b k sum h e =
     within-all unit (10000 - a) (10000 - b) (tenthsAt a b k) k (readingOf x) (unitsOf x) (roundings x a b k h) sum e
+
+-- ---- gluten, which is not converted: both bases are one, so that they go out
+
+gluten-all : (D f k r u : ℕ) → Roundings D 1 1 f k r u → (s : ℤ) → pos r +ℤ s ≡ pos k
+    → natAbs (pos (20 * D * f) -ℤ (pos (200 * u) +ℤ pos (2 * D) *ℤ s)) ≤ 11 * D
+unfolding one
+gluten-all D f k r u h s e =
+    let w = within-all D 1 1 f k r u h s e in
+    let z = pos (200 * u) +ℤ pos (2 * D) *ℤ s in
+    let near : natAbs (pos (20 * D * f) -ℤ z) ≤ 10 * D * 1 + D * 1 =
+    subst (λ (n : ℕ). natAbs (pos n -ℤ z) ≤ 10 * D * 1 + D * 1) (mul-one (20 * D * f))
+    (subst (λ (y : ℤ). natAbs (pos (20 * D * f * 1) -ℤ y) ≤ 10 * D * 1 + D * 1) (*ℤ-one z) w) in
+    omega (arith, near)
+
+gluten-roundings : (x : Float) (k : ℕ) → Roundings unit 1 1 (tenths k) k (readingOf x) (unitsOf x)
+unfolding tenths readingOf
+gluten-roundings x k =
+    let w = 200 * unitsOf x + unit in
+    let low = div-below (k + 5) 10 in
+    let high = div-above (k + 5) 10 (lit< tt) in
+    record {
+      low = omega (arith, low);
+      high = omega (arith, high);
+      readLow = div-below w (2 * unit);
+      readHigh = div-above w (2 * unit) (lit< tt);
+    }
+
+pub within-gluten : (x : Float) (k : ℕ) (sum : ℤ) → pos (readingOf x) +ℤ derivedIntercept sum ≡ pos k → WithinGluten (tenths k) x sum
+within-gluten x k sum e = gluten-all unit (tenths k) k (readingOf x) (unitsOf x) (gluten-roundings x k) (derivedIntercept sum) e

@@ -31,6 +31,7 @@ use Rattle.station_rules.specs.declared.Verdict.{Verdict}
 use Rattle.station_rules.specs.declared.OpenAnswer.{OpenAnswer}
 use Rattle.station_rules.specs.declared.Certificate.{Certificate}
 use Rattle.station_rules.specs.declared.Scan.{Scan}
+use Rattle.station_rules.specs.declared.Asked.{Asked}
 use Rattle.station_rules.specs.declared.Basis.{Basis}
 use Rattle.station_rules.proofs.Phases.{repaired-code}
 use Rattle.station_rules.proofs.Checks.{none-head, none-tail}
@@ -252,19 +253,19 @@ repair-holds words day = go (firstNumber (soundCheck s ∷ repairNumbers (s .day
     go (some n) e = refl
     go none e = repair-written words (places-47 words (repairNumbers (s .day) day) e) day
 
-pub market-holds : (words : List ℤ) (day line : ℕ) (scan : Scan) (basis : Basis)
-    → stationIn (marketIn words day line scan basis .places) ≡ marketOf (stationIn words) day line scan basis .station
+pub market-holds : (words : List ℤ) (day line : ℕ) (scan : Scan) (asked : Asked) (basis : Basis)
+    → stationIn (marketIn words day line scan asked basis .places) ≡ marketOf (stationIn words) day line scan asked basis .station
 unfolding marketIn marketOf
-market-holds words day line scan basis = go (firstNumber (soundCheck s ∷ numbers)) refl
+market-holds words day line scan asked basis = go (firstNumber (soundCheck s ∷ numbers)) refl
   where
     s : Station
     s = stationIn words
 
     numbers : List (Check ℕ)
-    numbers = marketNumbers (s .row) (s .day) (valuesOf s line) day line scan basis
+    numbers = marketNumbers (s .row) (s .day) (valuesOf s line) day line scan asked basis
 
     c : Certificate
-    c = certificateOf (s .row) (valuesOf s line) line scan basis
+    c = certificateOf (s .row) (valuesOf s line) line scan asked basis
 
     go : (o : Option ℕ) → firstNumber (soundCheck s ∷ numbers) ≡ o
         → stationIn (marketLeft (marketResult o s (marketStation s day) c .answer) words (marketPlaces words day)) ≡ marketResult o s (marketStation s day) c .station
@@ -280,13 +281,13 @@ after-holds : (words : List ℤ) (c : Call) → stationIn (placesAfter words c) 
 unfolding placesAfter stationAfter
 after-holds words (sheetCall day line numbers) = sheet-holds words day line numbers
 after-holds words (repairCall day) = repair-holds words day
-after-holds words (marketCall day line scan basis) = market-holds words day line scan basis
+after-holds words (marketCall day line scan asked basis) = market-holds words day line scan asked basis
 
 reply-holds : (words : List ℤ) (c : Call) → replyIn words c ≡ stationReply (stationIn words) c
 unfolding replyIn stationReply sheetIn repairIn marketIn
 reply-holds words (sheetCall day line numbers) = refl
 reply-holds words (repairCall day) = refl
-reply-holds words (marketCall day line scan basis) = refl
+reply-holds words (marketCall day line scan asked basis) = refl
 
 pub as-held : (words : List ℤ) (calls : List Call) → AsHeld words calls
 as-held words [] = record { answers = refl; after = refl }

@@ -15,5 +15,6 @@ pub mod Changes
 pub mod InPlace
 pub mod Demand3
 pub mod Figures
+pub mod Gluten
 pub mod Order
 pub mod Cases

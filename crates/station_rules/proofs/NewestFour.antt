@@ -16,6 +16,7 @@ use Rattle.station_rules.specs.Judging.{sheetNumbers, marketNumbers, she
 use Rattle.station_rules.specs.Soundness.{daysFall}
 use Rattle.station_rules.specs.declared.PastSet.{PastSet}
 use Rattle.station_rules.specs.declared.Scan.{Scan}
+use Rattle.station_rules.specs.declared.Asked.{Asked}
 use Rattle.station_rules.specs.declared.Basis.{Basis}
 use Rattle.whole.proofs.Tests.{and-l, and-r, and-i}
 use Rattle.station_rules.specs.declared.Test.{Test}
@@ -119,12 +120,12 @@ module _ (row : ℕ) (v : Values) (day line : ℕ) where
   unfolding sheetVerdict sheetSet
   sheet-verdict-four d numbers t = verdict-four (limitsOf row line) v d day (sheetSet row v day line numbers) t
 
-  module _ (scan : Scan) (basis : Basis) where
+  module _ (scan : Scan) (asked : Asked) (basis : Basis) where
     pub market-numbers-four : (last : ℕ)
-        → marketNumbers row last (newestFour v) day line scan basis ≡ marketNumbers row last v day line scan basis
+        → marketNumbers row last (newestFour v) day line scan asked basis ≡ marketNumbers row last v day line scan asked basis
     unfolding marketNumbers marketChecks correctedValue
     market-numbers-four last = rw (newest-take (v .past))
 
-    pub certificate-four : certificateOf row (newestFour v) line scan basis ≡ certificateOf row v line scan basis
+    pub certificate-four : certificateOf row (newestFour v) line scan asked basis ≡ certificateOf row v line scan asked basis
     unfolding certificateOf correctedValue
     certificate-four = rw (newest-take (v .past))

@@ -98,7 +98,7 @@ module _ (line : ℕ) (entries : List Entry) where
 unfoldable pub bookNumber : Book → Call → Option ℕ
 bookNumber b (sheetCall day line numbers) = firstNumber (sheetNumbers (b .row) (b .day) (bookValues line (b .entries)) day line numbers)
 bookNumber b (repairCall day) = firstNumber (repairNumbers (b .day) day)
-bookNumber b (marketCall day line scan basis) = firstNumber (marketNumbers (b .row) (b .day) (bookValues line (b .entries)) day line scan basis)
+bookNumber b (marketCall day line scan asked basis) = firstNumber (marketNumbers (b .row) (b .day) (bookValues line (b .entries)) day line scan asked basis)
 
 -- what an accepted sheet writes into the book
 unfoldable pub entryOf : Book → ℕ → ℕ → List ℤ → SheetEntry
@@ -119,7 +119,7 @@ unfoldable pub accepted : Book → Call → Book
 accepted b (sheetCall day line numbers) =
     record { row = b .row; day = day; entries = sheetEntry (entryOf b day line numbers) ∷ b .entries }
 accepted b (repairCall day) = record { row = b .row; day = day; entries = repairEntry day ∷ b .entries }
-accepted b (marketCall day line scan basis) = record { row = b .row; day = day; entries = b .entries }
+accepted b (marketCall day line scan asked basis) = record { row = b .row; day = day; entries = b .entries }
 
 -- the answer to an accepted call
 unfoldable pub grantedReply : Book → Call → Reply
@@ -127,8 +127,8 @@ grantedReply b (sheetCall day line numbers) =
     let e = entryOf b day line numbers in
     outcome (e .sum) (e .count) (phaseAfter (e .met)) (e .change)
 grantedReply b (repairCall day) = repaired
-grantedReply b (marketCall day line scan basis) =
-    let c = certificateOf (b .row) (bookValues line (b .entries)) line scan basis in
+grantedReply b (marketCall day line scan asked basis) =
+    let c = certificateOf (b .row) (bookValues line (b .entries)) line scan asked basis in
     certificate (c .day) (c .intercept) (c .basis) (c .figure) (c .converted)
 
 abbrev pub orRefused : Option ℕ → Reply → Reply

@@ -1,17 +1,24 @@
--- What a call of the cases shows, how the station's cases are made, and "Misreadings of the handbook". The cases marked by a star are in the crate `starred`.
+-- What a call of the cases shows, how the station's cases are made, "Misreadings of the handbook" and the cases of "Wet gluten". The cases marked by a star are
+-- in the crate `starred`.
+use mathlib.Core.Path.{_≡_}
 use mathlib.Core.List.{List, [], _∷_, _++_, map}
-use Prim.Native.Nat.{ℕ}
+use Prim.Native.Nat.{ℕ, _*_}
 use lib.ListN.{length, take, replicate}
 use lib.IntN.{ℤ, pos, negsuc, _+ℤ_}
 use lib.Ieee.{ofBits, binary32}
-use Rattle.reading.specs.Reading.{Said, hundredths, answerOf, saidBy}
+use Rattle.reading.specs.Reading.{unit, Said, hundredths, answerOf, saidBy}
 use Rattle.station_rules.specs.Sheets.{Sample, numbersOf}
 use Rattle.station_rules.specs.Lines.{LinePhase, newLine, openLine, checkDueLine}
 use Rattle.station_rules.specs.Held.{phaseCode, noSets, freshLine}
-use Rattle.station_rules.specs.Stations.{lineOf, sheetOf, marketOf}
+use Rattle.station_rules.specs.Stations.{freshStation, lineOf, sheetOf, marketOf}
 use Rattle.station_rules.specs.Replies.{Reply, refusedBy, outcome, certificate, sheetReply, marketReply}
+use Rattle.station_rules.specs.Demand3.{glutenOff}
 use Rattle.station_rules.specs.declared.Scan.{Scan}
+use Rattle.station_rules.specs.declared.WheatClass.{WheatClass}
+use Rattle.station_rules.specs.declared.WheatClass.the-variants.{HardRedWinter, HardRedSpring, Other}
+use Rattle.station_rules.specs.declared.Asked.{Asked}
 use Rattle.station_rules.specs.declared.Basis.{Basis}
+use Rattle.station_rules.specs.declared.Basis.the-variants.{Standard, Dry, Specified, AsIs}
 use Rattle.station_rules.specs.Held.{Station}
 
 -- what a call shows: what a reading says; a sheet's reply and the line's intercept after it; a market test's reply; a charted set's average absolute, tolerance and
@@ -30,16 +37,20 @@ pub record Case : Type 0 where
 abbrev pub readOf : (bits : ℕ) → Seen
 readOf bits = read (saidBy (answerOf (ofBits binary32 bits)))
 
--- a wheat station of day 1 whose line has intercept 0, this phase, and past sets of day 1 with N 12 and these S
-abbrev pub stationWith : LinePhase → List ℤ → Station
-stationWith phase sums =
+-- a wheat station of day 1 whose line has this intercept and phase, and past sets of day 1 with N 12 and these S
+abbrev pub stationAt : (intercept : ℤ) → LinePhase → List ℤ → Station
+stationAt intercept phase sums =
     record {
       row = 0;
       day = 1;
       lines =
-          record { intercept = pos 0; phase = phaseCode phase; held = length sums; past = take 4 (map (λ s. record { day = 1; sum = s; count = 12 }) sums ++ noSets) }
+          record { intercept = intercept; phase = phaseCode phase; held = length sums; past = take 4 (map (λ s. record { day = 1; sum = s; count = 12 }) sums ++ noSets) }
           ∷ freshLine ∷ freshLine ∷ [];
     }
+
+-- the same with intercept 0
+abbrev pub stationWith : LinePhase → List ℤ → Station
+stationWith phase sums = stationAt (pos 0) phase sums
 
 -- a sample; one that deviates by so much; one measured again, with both results alike
 abbrev pub sample : (baseline first second third : ℤ) → Sample
@@ -73,7 +84,19 @@ twoDeviations first second =
 
 -- a wheat scan on day 2, dry; on an open line of intercept 0 h is the float's reading
 abbrev pub dryOn : LinePhase → List ℤ → (bits : ℕ) → Seen
-dryOn phase past bits = market (marketReply (marketOf (stationWith phase past) 2 0 (Scan.Wheat (ofBits binary32 bits)) Basis.Dry .answer))
+dryOn phase past bits = market (marketReply (marketOf (stationWith phase past) 2 0 (Scan.Wheat (ofBits binary32 bits)) Asked.LineFigure Basis.Dry .answer))
+
+-- a wheat scan with gluten, by the patterns of its two floats
+abbrev pub wheatGluten : (protein gluten : ℕ) → Scan
+wheatGluten protein gluten = Scan.WheatGluten (record { protein = ofBits binary32 protein; gluten = ofBits binary32 gluten })
+
+-- gluten asked on day 2 of a station's line
+abbrev pub glutenOn : Station → (line : ℕ) → Scan → WheatClass → Basis → Seen
+glutenOn s line scan class basis = market (marketReply (marketOf s 2 line scan (Asked.Gluten class) basis .answer))
+
+-- and of a wheat line that is open with an intercept
+abbrev pub glutenAt : (intercept : ℤ) → Scan → WheatClass → Basis → Seen
+glutenAt intercept scan class basis = glutenOn (stationAt intercept openLine (pos 0 ∷ [])) 0 scan class basis
 
 -- what comes out where the handbook may be misread
 unfoldable pub misreadings : List Case
@@ -92,3 +115,51 @@ misreadings =
     -- an adjusted line doesn't test before its check
     ∷ record { gives = dryOn checkDueLine [] 0x4158_0000; says = market (refusedBy 12) }
     ∷ []
+
+-- wet gluten
+unfoldable pub glutenCases : List Case
+glutenCases =
+    -- the intercept is derived: 0 gives 0, 11 gives 33, 500 and −500 (the exact halves) give 1515 and −1515
+    record { gives = glutenAt (pos 0) (wheatGluten 0x4158_a3d7 0x41f0_0000) HardRedWinter Standard; says = market (certificate 1 (pos 0) (pos 1400) 300 300) }
+    ∷ record { gives = glutenAt (pos 11) (wheatGluten 0x4158_a3d7 0x41f0_0000) HardRedSpring Standard; says = market (certificate 1 (pos 33) (pos 1400) 303 303) }
+    ∷ record { gives = glutenAt (pos 500) (wheatGluten 0x4158_a3d7 0x41f0_0000) HardRedWinter Standard; says = market (certificate 1 (pos 1515) (pos 1400) 452 452) }
+    ∷ record { gives = glutenAt (negsuc 499) (wheatGluten 0x4158_a3d7 0x41f0_0000) HardRedWinter Standard; says = market (certificate 1 (negsuc 1514) (pos 1400) 149 149) }
+    -- intercept 1000 gives 3029: reading 6971 is certified, 6972 is 11
+    ∷ record { gives = glutenAt (pos 1000) (wheatGluten 0x4158_a3d7 0x428b_6b85) HardRedWinter Standard; says = market (certificate 1 (pos 3029) (pos 1400) 1000 1000) }
+    ∷ record { gives = glutenAt (pos 1000) (wheatGluten 0x4158_a3d7 0x428b_70a4) HardRedWinter Standard; says = market (refusedBy 11) }
+    -- protein may be not a number; gluten that isn't is 9
+    ∷ record { gives = glutenAt (pos 0) (wheatGluten 0x7fc0_0000 0x41f0_0000) HardRedSpring Standard; says = market (certificate 1 (pos 0) (pos 1400) 300 300) }
+    ∷ record { gives = glutenAt (pos 0) (wheatGluten 0x4158_a3d7 0x7fc0_0000) HardRedSpring Standard; says = market (refusedBy 9) }
+    -- another class is 23, whatever the float and the basis
+    ∷ record { gives = glutenAt (pos 0) (wheatGluten 0x4158_a3d7 0x41f0_0000) Other Standard; says = market (refusedBy 23) }
+    ∷ record { gives = glutenAt (pos 0) (wheatGluten 0x4158_a3d7 0x7fc0_0000) Other Standard; says = market (refusedBy 23) }
+    ∷ record { gives = glutenAt (pos 0) (wheatGluten 0x4158_a3d7 0x41f0_0000) Other (Specified (pos 1400)); says = market (refusedBy 23) }
+    -- a basis not asked for as standard is 24, whatever its value and the float
+    ∷ record { gives = glutenAt (pos 0) (wheatGluten 0x4158_a3d7 0x41f0_0000) HardRedWinter Dry; says = market (refusedBy 24) }
+    ∷ record { gives = glutenAt (pos 0) (wheatGluten 0x4158_a3d7 0x41f0_0000) HardRedWinter (AsIs (pos 1400)); says = market (refusedBy 24) }
+    ∷ record { gives = glutenAt (pos 0) (wheatGluten 0x4158_a3d7 0x41f0_0000) HardRedWinter (Specified (pos 1200)); says = market (refusedBy 24) }
+    ∷ record { gives = glutenAt (pos 0) (wheatGluten 0x4158_a3d7 0x41f0_0000) HardRedWinter (Specified (pos 1400)); says = market (refusedBy 24) }
+    ∷ record { gives = glutenAt (pos 0) (wheatGluten 0x4158_a3d7 0x41f0_0000) HardRedWinter (Specified (pos 5001)); says = market (refusedBy 24) }
+    ∷ record { gives = glutenAt (pos 0) (wheatGluten 0x4158_a3d7 0x41f0_0000) HardRedWinter (Specified (negsuc 0)); says = market (refusedBy 24) }
+    ∷ record { gives = glutenAt (pos 0) (wheatGluten 0x4158_a3d7 0x7fc0_0000) HardRedWinter Dry; says = market (refusedBy 24) }
+    -- a scan without the float is 8, whatever the class and the basis
+    ∷ record { gives = glutenAt (pos 0) (Scan.Wheat (ofBits binary32 0x41f0_0000)) HardRedWinter Standard; says = market (refusedBy 8) }
+    ∷ record { gives = glutenAt (pos 0) (Scan.Wheat (ofBits binary32 0x41f0_0000)) Other Dry; says = market (refusedBy 8) }
+    ∷ record { gives = glutenAt (pos 0) (Scan.Fault 1) Other Standard; says = market (refusedBy 8) }
+    ∷ record { gives = glutenAt (pos 0) (Scan.Corn (record { protein = ofBits binary32 0x41f0_0000; oil = ofBits binary32 0x41f0_0000; starch = ofBits binary32 0x41f0_0000 })) HardRedWinter Standard; says = market (refusedBy 8) }
+    -- wheat has no line 1; corn has no gluten, on none of its lines
+    ∷ record { gives = glutenOn (freshStation 0) 1 (wheatGluten 0x4158_a3d7 0x41f0_0000) HardRedWinter Standard; says = market (refusedBy 3) }
+    ∷ record { gives = glutenOn (freshStation 1) 0 (wheatGluten 0x4158_a3d7 0x41f0_0000) HardRedWinter Standard; says = market (refusedBy 8) }
+    ∷ record { gives = glutenOn (freshStation 1) 2 (Scan.Corn (record { protein = ofBits binary32 0x41f0_0000; oil = ofBits binary32 0x41f0_0000; starch = ofBits binary32 0x41f0_0000 })) Other Dry; says = market (refusedBy 8) }
+    -- the protein line's permission: new and check due are 12
+    ∷ record { gives = glutenOn (freshStation 0) 0 (wheatGluten 0x4158_a3d7 0x41f0_0000) HardRedWinter Standard; says = market (refusedBy 12) }
+    ∷ record { gives = glutenOn (stationAt (pos 0) checkDueLine []) 0 (wheatGluten 0x4158_a3d7 0x41f0_0000) HardRedSpring Standard; says = market (refusedBy 12) }
+    -- without gluten asked its float is not looked at: 13.54 dry
+    ∷ record { gives = market (marketReply (marketOf (stationWith openLine (pos 0 ∷ [])) 2 0 (wheatGluten 0x4158_a3d7 0x7fc0_0000) Asked.LineFigure Dry .answer)); says = market (certificate 1 (pos 0) (pos 0) 135 154) }
+    ∷ []
+
+-- the gluten distance of 0.055 percent is reached: 30.125 and a protein intercept of 4, which derives 12, give 30.3
+abbrev pub GlutenReached : Type 0
+GlutenReached =
+    (glutenAt (pos 4) (wheatGluten 0x7fc0_0000 0x41f1_0000) HardRedWinter Standard ≡ market (certificate 1 (pos 12) (pos 1400) 303 303))
+    × (glutenOff 303 (ofBits binary32 0x41f1_0000) (pos 4) ≡ 11 * unit)

@@ -16,6 +16,7 @@ use Rattle.station_rules.specs.Calls.{Call, sheetCall, repairCall, marke
 use Rattle.whole.specs.Places.{place}
 use Rattle.station_rules.specs.Places.{lineIn, lineStart, linePlaces, stationIn}
 use Rattle.station_rules.specs.declared.Scan.{Scan}
+use Rattle.station_rules.specs.declared.Asked.{Asked}
 use Rattle.station_rules.specs.declared.Basis.{Basis}
 use Rattle.station_rules.specs.declared.PastSet.{PastSet}
 use Rattle.station_rules.specs.declared.Verdict.{Verdict}
@@ -130,9 +131,9 @@ abbrev pub marketLeft : MarketAnswer → (came written : List ℤ) → List ℤ
 marketLeft (MarketAnswer.Certified c) came written = written
 marketLeft (MarketAnswer.Refused r) came written = came
 
-unfoldable pub marketIn : List ℤ → ℕ → ℕ → Scan → Basis → Left MarketAnswer
-marketIn words day line scan basis =
-    let answer = marketOf (stationIn words) day line scan basis .answer in
+unfoldable pub marketIn : List ℤ → ℕ → ℕ → Scan → Asked → Basis → Left MarketAnswer
+marketIn words day line scan asked basis =
+    let answer = marketOf (stationIn words) day line scan asked basis .answer in
     record { answer = answer; places = marketLeft answer words (marketPlaces words day) }
 
 -- ---- lists of calls, each on the places that the call before left
@@ -141,13 +142,13 @@ marketIn words day line scan basis =
 unfoldable pub placesAfter : List ℤ → Call → List ℤ
 placesAfter words (sheetCall day line numbers) = sheetIn words day line numbers .places
 placesAfter words (repairCall day) = repairIn words day .places
-placesAfter words (marketCall day line scan basis) = marketIn words day line scan basis .places
+placesAfter words (marketCall day line scan asked basis) = marketIn words day line scan asked basis .places
 
 -- what it is answered
 unfoldable pub replyIn : List ℤ → Call → Reply
 replyIn words (sheetCall day line numbers) = sheetReply (sheetIn words day line numbers .answer)
 replyIn words (repairCall day) = repairReply (repairIn words day .answer)
-replyIn words (marketCall day line scan basis) = marketReply (marketIn words day line scan basis .answer)
+replyIn words (marketCall day line scan asked basis) = marketReply (marketIn words day line scan asked basis .answer)
 
 abbrev pub repliesIn : List ℤ → List Call → List Reply
 repliesIn words [] = []
@@ -163,8 +164,8 @@ pub record HoldsStation : Type 0 where
   pub sheet : (words : List ℤ) (day line : ℕ) (numbers : List ℤ)
       → stationIn (sheetIn words day line numbers .places) ≡ sheetOf (stationIn words) day line numbers .station
   pub repair : (words : List ℤ) (day : ℕ) → stationIn (repairIn words day .places) ≡ repairOf (stationIn words) day .station
-  pub market : (words : List ℤ) (day line : ℕ) (scan : Scan) (basis : Basis)
-      → stationIn (marketIn words day line scan basis .places) ≡ marketOf (stationIn words) day line scan basis .station
+  pub market : (words : List ℤ) (day line : ℕ) (scan : Scan) (asked : Asked) (basis : Basis)
+      → stationIn (marketIn words day line scan asked basis .places) ≡ marketOf (stationIn words) day line scan asked basis .station
 
 -- so every list of calls on places is answered as the same list on the station that they hold, of which demand 3 speaks
 pub record AsHeld (words : List ℤ) (calls : List Call) : Type 0 where

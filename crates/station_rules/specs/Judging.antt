@@ -8,9 +8,10 @@ use lib.IntN.{ℤ}
 use Rattle.whole.specs.Lists.{Check}
 use Rattle.station_rules.specs.Rows.{samples, lineCount, limitsOf}
 use Rattle.station_rules.specs.Sheets.{setOf, sheetChecks}
-use Rattle.station_rules.specs.Lines.{Values, verdictOf, metEvery}
+use Rattle.station_rules.specs.Lines.{Values, verdictOf}
 use Rattle.station_rules.specs.Markets.{marketChecks}
 use Rattle.station_rules.specs.declared.Scan.{Scan}
+use Rattle.station_rules.specs.declared.Asked.{Asked}
 use Rattle.station_rules.specs.declared.Basis.{Basis}
 use Rattle.station_rules.specs.declared.Verdict.{Verdict}
 use Rattle.station_rules.specs.declared.Set.{Set}
@@ -34,9 +35,9 @@ module _ (row last : ℕ) (v : Values) (day line : ℕ) where
       dayCheck last day ∷ lineCheck row line
       ∷ sheetChecks (limitsOf row line) (v .intercept) (samples row) numbers
 
-  -- a market test: numbers 2, 3 and 8 to 14
-  unfoldable pub marketNumbers : Scan → Basis → List (Check ℕ)
-  marketNumbers scan basis = dayCheck last day ∷ lineCheck row line ∷ marketChecks row v line scan basis day
+  -- a market test: numbers 2, 3, 8, 23, 24 and 9 to 14
+  unfoldable pub marketNumbers : Scan → Asked → Basis → List (Check ℕ)
+  marketNumbers scan asked basis = dayCheck last day ∷ lineCheck row line ∷ marketChecks row v line scan asked basis day
 
 module _ (row : ℕ) (v : Values) (day line : ℕ) (numbers : List ℤ) where
   -- S and N of an accepted sheet

@@ -2,21 +2,29 @@
 use mathlib.Core.Path.{_≡_}
 use mathlib.Core.Bool.{true}
 use mathlib.Core.List.{List, List·Permᴰ}
-use Prim.Native.Nat.{ℕ}
+use Prim.Native.Nat.{ℕ, _*_, _≤_}
 use lib.Dec.{T}
+use lib.IntN.{ℤ, pos, natAbs, _-ℤ_, _*ℤ_}
+use lib.Ieee.{Float}
 use Rattle.station_rules.specs.Rows.{rowExists}
 use Rattle.station_rules.specs.Sheets.{Sample, numbersOf}
 use Rattle.station_rules.specs.Lines.{Values, verdictOf, metEvery}
-use Rattle.station_rules.specs.Markets.{certificateOf}
+use Rattle.station_rules.specs.Markets.{derivedIntercept, correctedValue, newestDay, tenths, certificateOf}
 use Rattle.station_rules.specs.Soundness.{sound}
-use Rattle.station_rules.specs.Stations.{freshStation, openOf, sheetOf}
+use Rattle.station_rules.specs.Stations.{freshStation, valuesOf, openOf, sheetOf, marketOf}
+use Rattle.station_rules.specs.Replies.{refusedBy, marketReply}
 use Rattle.station_rules.specs.Calls.{Call, stationAfterAll}
 use Rattle.station_rules.specs.declared.Limits.{Limits}
 use Rattle.station_rules.specs.declared.Set.{Set}
 use Rattle.station_rules.specs.declared.Scan.{Scan}
+use Rattle.station_rules.specs.declared.WheatSet.{WheatSet}
+use Rattle.station_rules.specs.declared.WheatClass.{WheatClass}
+use Rattle.station_rules.specs.declared.Asked.{Asked}
 use Rattle.station_rules.specs.declared.Basis.{Basis}
 use Rattle.station_rules.specs.Held.{Station}
+use Rattle.station_rules.specs.declared.Certificate.{Certificate}
 use Rattle.station_rules.specs.declared.OpenAnswer.{OpenAnswer}
+use Rattle.station_rules.specs.declared.MarketAnswer.{MarketAnswer}
 
 -- an opening of an existing row hands back its fresh station
 abbrev pub OpensFresh : Type 0
@@ -32,9 +40,42 @@ MetIsMet = (limits : Limits) (v : Values) (day : ℕ) (set : Set) → verdictOf 
 
 -- for the standard basis both figures are equal
 abbrev pub StandardEqual : Type 0
-StandardEqual = (row : ℕ) (v : Values) (line : ℕ) (scan : Scan)
-    → certificateOf row v line scan Basis.Standard .converted ≡ certificateOf row v line scan Basis.Standard .figure
+StandardEqual = (row : ℕ) (v : Values) (line : ℕ) (scan : Scan) (asked : Asked)
+    → certificateOf row v line scan asked Basis.Standard .converted ≡ certificateOf row v line scan asked Basis.Standard .figure
 
 -- given to one station on one day and line, the same samples in another order get the same outcome and station, or the same refusal
 abbrev pub OrderFree : Type 0
 OrderFree = (s : Station) (day line : ℕ) (ss ts : List Sample) → List·Permᴰ ss ts → sheetOf s day line (numbersOf ss) ≡ sheetOf s day line (numbersOf ts)
+
+-- ---- wet gluten
+
+-- the derived intercept is the hundredth nearest to 3.029 times the intercept (multiplied by 1000), and for an intercept of −1000..1000 lies in −3029..3029
+pub record DerivedNearest (i : ℤ) : Type 0 where
+  pub nearest : 2 * natAbs (pos 1000 *ℤ derivedIntercept i -ℤ pos 3029 *ℤ i) ≤ 1000
+  pub small : natAbs i ≤ 1000 → natAbs (derivedIntercept i) ≤ 3029
+
+-- a gluten certificate carries the day of the line's newest set, the derived intercept, 1400 as B, and the one figure twice
+abbrev pub glutenCertificate : Values → (line : ℕ) → Scan → WheatClass → Certificate
+glutenCertificate v line scan class =
+    let figure = tenths (natAbs (correctedValue v scan (Asked.Gluten class) line)) in
+    record { day = newestDay (v .past); intercept = derivedIntercept (v .intercept); basis = pos 1400; figure = figure; converted = figure }
+
+-- and every one that is issued is this
+abbrev pub GlutenCertificate : Type 0
+GlutenCertificate = (s : Station) (day line : ℕ) (scan : Scan) (class : WheatClass) (basis : Basis) (c : Certificate)
+    → marketOf s day line scan (Asked.Gluten class) basis .answer ≡ MarketAnswer.Certified c → c ≡ glutenCertificate (valuesOf s line) line scan class
+
+-- 10 and 14 are never answered where gluten is asked
+pub record GlutenNumbers : Type 0 where
+  pub never10 : (s : Station) (day line : ℕ) (scan : Scan) (class : WheatClass) (basis : Basis)
+      → marketReply (marketOf s day line scan (Asked.Gluten class) basis .answer) ≡ refusedBy 10 → ⊥
+  pub never14 : (s : Station) (day line : ℕ) (scan : Scan) (class : WheatClass) (basis : Basis)
+      → marketReply (marketOf s day line scan (Asked.Gluten class) basis .answer) ≡ refusedBy 14 → ⊥
+
+-- only the float asked for is looked at: with gluten asked the protein float may be any; without, the scan serves as a wheat value
+pub record OnlyAsked : Type 0 where
+  pub gluten : (s : Station) (day line : ℕ) (p q g : Float) (class : WheatClass) (basis : Basis)
+      → marketOf s day line (Scan.WheatGluten (record { protein = p; gluten = g })) (Asked.Gluten class) basis
+      ≡ marketOf s day line (Scan.WheatGluten (record { protein = q; gluten = g })) (Asked.Gluten class) basis
+  pub wheat : (s : Station) (day line : ℕ) (w : WheatSet) (basis : Basis)
+      → marketOf s day line (Scan.WheatGluten w) Asked.LineFigure basis ≡ marketOf s day line (Scan.Wheat (w .protein)) Asked.LineFigure basis

@@ -1,13 +1,14 @@
 -- docs/SPECIFICATION.md, "Refused calls": which number is answered, and the number of each refusal of a station's calls.
 use Prim.Native.Nat.{ℕ}
+use mathlib.Core.Bool.{cond}
 use mathlib.Core.List.{List, [], _∷_}
 use mathlib.Core.Option.{Option, none, some}
-use lib.ListN.{getD}
+use lib.Dec.{eqb}
 use Rattle.whole.specs.Lists.{Check, firstApplying}
 use Rattle.station_rules.specs.declared.Refusal.{Refusal}
-use Rattle.station_rules.specs.declared.Refusal.the-variants.{UnsoundStation, UnknownRow, BadDay, UnknownLine, SheetSize, SheetNumber, ThirdReading, AgainPair, WrongScan, BadFloat, BadBasis, BadValue, NotOpen, OldSet, TooHigh}
+use Rattle.station_rules.specs.declared.Refusal.the-variants.{UnsoundStation, UnknownRow, BadDay, UnknownLine, SheetSize, SheetNumber, ThirdReading, AgainPair, WrongScan, BadFloat, BadBasis, BadValue, NotOpen, OldSet, TooHigh, GlutenClass, GlutenBasis}
 
--- "The lowest applying number is answered": the first of checks that stand in the order of their numbers
+-- the first number that applies is answered; checks stand in the order of their numbers, but 23 and 24 between 8 and 9
 abbrev pub firstNumber : List (Check ℕ) → Option ℕ
 firstNumber = firstApplying none some
 
@@ -28,13 +29,20 @@ numberOf BadValue = 11
 numberOf NotOpen = 12
 numberOf OldSet = 13
 numberOf TooHigh = 14
+numberOf GlutenClass = 23
+numberOf GlutenBasis = 24
 
--- numbers 0 to 14 as refusals
+-- all refusals
 abbrev pub refusals : List Refusal
 refusals =
     UnsoundStation ∷ UnknownRow ∷ BadDay ∷ UnknownLine ∷ SheetSize ∷ SheetNumber ∷ ThirdReading ∷ AgainPair
-    ∷ WrongScan ∷ BadFloat ∷ BadBasis ∷ BadValue ∷ NotOpen ∷ OldSet ∷ TooHigh ∷ []
+    ∷ WrongScan ∷ BadFloat ∷ BadBasis ∷ BadValue ∷ NotOpen ∷ OldSet ∷ TooHigh ∷ GlutenClass ∷ GlutenBasis ∷ []
+
+-- the first refusal of a list that has this number; every number of a check has one
+abbrev pub withNumber : ℕ → List Refusal → Refusal
+withNumber number [] = UnsoundStation
+withNumber number (r ∷ rs) = cond (eqb (numberOf r) number) r (withNumber number rs)
 
 -- the refusal of a number
 abbrev pub refusalOf : ℕ → Refusal
-refusalOf number = getD refusals number UnsoundStation
+refusalOf number = withNumber number refusals

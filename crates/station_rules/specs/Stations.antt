@@ -13,6 +13,7 @@ use Rattle.station_rules.specs.Judging.{sheetNumbers, marketNumbers, rep
 use Rattle.station_rules.specs.Held.{freshLine, lineValues, lineAfter, phaseHeld, repairedLine}
 use Rattle.station_rules.specs.Soundness.{soundCheck}
 use Rattle.station_rules.specs.declared.Scan.{Scan}
+use Rattle.station_rules.specs.declared.Asked.{Asked}
 use Rattle.station_rules.specs.declared.Basis.{Basis}
 use Rattle.station_rules.specs.declared.Line.{Line}
 use Rattle.station_rules.specs.declared.Outcome.{Outcome}
@@ -104,7 +105,7 @@ unfoldable pub repairOf : Station → ℕ → RepairResult
 repairOf s day =
     repairResult (firstNumber (soundCheck s ∷ repairNumbers (s .day) day)) s (repairStation s day)
 
--- ---- a market test, which names day, line, scan and basis
+-- ---- a market test, which names day, line, scan, what is asked and basis
 
 -- the station after a certified test: its day
 abbrev pub marketStation : Station → ℕ → Station
@@ -114,8 +115,8 @@ abbrev pub marketResult : Option ℕ → Station → Station → Certificate →
 marketResult none s next certificate = record { station = next; answer = MarketAnswer.Certified certificate }
 marketResult (some number) s next certificate = record { station = s; answer = MarketAnswer.Refused (refusalOf number) }
 
--- numbers 0, 2, 3 and 8 to 14
-unfoldable pub marketOf : Station → ℕ → ℕ → Scan → Basis → MarketResult
-marketOf s day line scan basis =
-    marketResult (firstNumber (soundCheck s ∷ marketNumbers (s .row) (s .day) (valuesOf s line) day line scan basis))
-    s (marketStation s day) (certificateOf (s .row) (valuesOf s line) line scan basis)
+-- numbers 0, 2, 3, 8, 23, 24 and 9 to 14
+unfoldable pub marketOf : Station → ℕ → ℕ → Scan → Asked → Basis → MarketResult
+marketOf s day line scan asked basis =
+    marketResult (firstNumber (soundCheck s ∷ marketNumbers (s .row) (s .day) (valuesOf s line) day line scan asked basis))
+    s (marketStation s day) (certificateOf (s .row) (valuesOf s line) line scan asked basis)

@@ -2,7 +2,7 @@
 
 use crate::Refusal;
 use crate::line::{self, Verdict};
-use crate::market::{self, Basis, Certificate, Request, Scan};
+use crate::market::{self, Asked, Basis, Certificate, Request, Scan};
 use crate::rules::Rules;
 use crate::sheet::{self, Outcome};
 use crate::station::{PastSet, Phase};
@@ -124,6 +124,7 @@ impl Book {
         day: u32,
         line: u64,
         scan: Scan,
+        asked: Asked,
         basis: Basis,
     ) -> Result<Certificate, Refusal> {
         let day = rules.day(self.day, day)?;
@@ -137,7 +138,7 @@ impl Book {
             phase: self.phase(line),
             newest: self.past(line).first().copied(),
         };
-        let certificate = market::certify(rules, &request, scan, basis)?;
+        let certificate = market::certify(rules, &request, scan, asked, basis)?;
         self.day = day;
         Ok(certificate)
     }

@@ -17,7 +17,7 @@ pub mod text;
 pub use book::Book;
 pub use chart::{Chart, ChartSet, ChartValues};
 pub use line::{Test, Verdict};
-pub use market::{Basis, Certificate, Scan};
+pub use market::{Asked, Basis, Certificate, Scan, WheatClass};
 pub use reading::reading;
 pub use rules::Rules;
 pub use sheet::{Judged, Outcome};

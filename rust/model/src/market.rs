@@ -1,4 +1,4 @@
-//! Section "Market test and moisture basis".
+//! Sections "Market test and moisture basis" and "Wet gluten".
 
 use crate::Refusal;
 use crate::reading::reading;
@@ -10,8 +10,24 @@ use crate::station::{PastSet, Phase, Station};
 #[derive(Clone, Copy, Debug, PartialEq, Eq)]
 pub enum Scan {
     Wheat(u32),
+    /// A wheat scan may bring a gluten float too: protein, gluten.
+    WheatGluten(u32, u32),
     Corn([u32; 3]),
     Fault,
+}
+
+/// A request asks for the line's own figure, or for gluten and then names the class.
+#[derive(Clone, Copy, Debug, PartialEq, Eq)]
+pub enum Asked {
+    LineFigure,
+    Gluten(WheatClass),
+}
+
+#[derive(Clone, Copy, Debug, PartialEq, Eq)]
+pub enum WheatClass {
+    HardRedWinter,
+    HardRedSpring,
+    Other,
 }
 
 /// Basis B: standard, dry (0), specified, or as-is with the official moisture.
@@ -37,12 +53,26 @@ pub struct Certificate {
 }
 
 /// The float of the asked line. 8: The scan is a fault or another grain's.
-fn asked(row: i64, line: usize, scan: Scan) -> Result<u32, Refusal> {
+fn line_float(row: i64, line: usize, scan: Scan) -> Result<u32, Refusal> {
     match (row, scan) {
-        (0, Scan::Wheat(protein)) => Ok(protein),
+        (0, Scan::Wheat(protein) | Scan::WheatGluten(protein, _)) => Ok(protein),
         (1, Scan::Corn(floats)) => Ok(floats[line]),
         _ => Err(8),
     }
+}
+
+/// The gluten float, which is that of wheat. 8: also a scan without it, as every corn scan.
+fn gluten_float(row: i64, scan: Scan) -> Result<u32, Refusal> {
+    match (row, scan) {
+        (0, Scan::WheatGluten(_, gluten)) => Ok(gluten),
+        _ => Err(8),
+    }
+}
+
+/// The protein intercept times 3.029, rounded to a hundredth, halves away from zero.
+fn gluten_intercept(rules: &Rules, protein: i64) -> i64 {
+    let thousandths = rules.gluten_factor * protein.abs();
+    (2 * thousandths + 1_000) / 2_000 * protein.signum()
 }
 
 /// B in whole hundredths. 10: B lies outside 0..5000; so does the B of no kind.
@@ -76,29 +106,86 @@ pub struct Request<'a> {
     pub newest: Option<PastSet>,
 }
 
-/// Numbers 8 to 14 in their order, then the certificate.
+impl Request<'_> {
+    /// The day of the line's newest set. 12: The line isn't open. 13: That set is too old.
+    fn set_day(&self, rules: &Rules) -> Result<i64, Refusal> {
+        let newest = match (self.phase, self.newest) {
+            (Phase::Open, Some(newest)) => newest,
+            _ => return Err(12),
+        };
+        if self.day - newest.day > rules.newest_days {
+            return Err(13);
+        }
+        Ok(newest.day)
+    }
+}
+
+/// The corrected value h is reading plus intercept. 11: h lies outside 0..10000.
+fn corrected(rules: &Rules, reading: i64, intercept: i64) -> Result<i64, Refusal> {
+    let h = reading + intercept;
+    if !(0..=rules.corrected).contains(&h) {
+        return Err(11);
+    }
+    Ok(h)
+}
+
+/// Numbers 8, 23, 24 and 9 to 14 in this order, then the certificate.
 pub fn certify(
+    rules: &Rules,
+    request: &Request,
+    scan: Scan,
+    asked: Asked,
+    basis: Basis,
+) -> Result<Certificate, Refusal> {
+    match asked {
+        Asked::LineFigure => certify_line(rules, request, scan, basis),
+        Asked::Gluten(class) => certify_gluten(rules, request, scan, class, basis),
+    }
+}
+
+/// Gluten is tested under the protein line's permission and reported at 14.0 percent only, not
+/// converted: the one figure twice.
+fn certify_gluten(
+    rules: &Rules,
+    request: &Request,
+    scan: Scan,
+    class: WheatClass,
+    basis: Basis,
+) -> Result<Certificate, Refusal> {
+    let float = gluten_float(request.row, scan)?;
+    // 23: Gluten asked with another class.
+    if class == WheatClass::Other {
+        return Err(23);
+    }
+    // 24: Gluten with a basis not asked for as standard.
+    if basis != Basis::Standard {
+        return Err(24);
+    }
+    let reading = reading(float)?;
+    let intercept = gluten_intercept(rules, request.intercept);
+    let h = corrected(rules, reading, intercept)?;
+    let set_day = request.set_day(rules)?;
+    let figure = tenths(h, 1);
+    Ok(Certificate {
+        set_day,
+        intercept,
+        basis: rules.gluten_basis,
+        corrected: figure,
+        at_basis: figure,
+    })
+}
+
+fn certify_line(
     rules: &Rules,
     request: &Request,
     scan: Scan,
     basis: Basis,
 ) -> Result<Certificate, Refusal> {
-    let float = asked(request.row, request.line, scan)?;
+    let float = line_float(request.row, request.line, scan)?;
     let reading = reading(float)?;
     let b = hundredths(rules, request.product, basis)?;
-    // The corrected value h is reading plus intercept.
-    let h = reading + request.intercept;
-    if !(0..=rules.corrected).contains(&h) {
-        return Err(11);
-    }
-    // 12: The line isn't open.
-    let newest = match (request.phase, request.newest) {
-        (Phase::Open, Some(newest)) => newest,
-        _ => return Err(12),
-    };
-    if request.day - newest.day > rules.newest_days {
-        return Err(13);
-    }
+    let h = corrected(rules, reading, request.intercept)?;
+    let set_day = request.set_day(rules)?;
     // h times (10000 − B)/(10000 − A); 14 looks at the value before rounding.
     let above = h * (10_000 - b);
     let below = 10_000 - request.product.standard;
@@ -106,7 +193,7 @@ pub fn certify(
         return Err(14);
     }
     Ok(Certificate {
-        set_day: newest.day,
+        set_day,
         intercept: request.intercept,
         basis: b,
         corrected: tenths(h, 1),
@@ -115,13 +202,15 @@ pub fn certify(
 }
 
 impl Station {
-    /// A market test: numbers 0, 2, 3 and 8 to 14. A certified one moves the station's day.
+    /// A market test: numbers 0, 2, 3, 8, 23, 24 and 9 to 14. A certified one moves the station's
+    /// day.
     pub fn market(
         &mut self,
         rules: &Rules,
         day: u32,
         line: u64,
         scan: Scan,
+        asked: Asked,
         basis: Basis,
     ) -> Result<Certificate, Refusal> {
         let day = self.called_on(rules, day)?;
@@ -136,7 +225,7 @@ impl Station {
             phase: line.phase(),
             newest: line.sets().first().copied(),
         };
-        let certificate = certify(rules, &request, scan, basis)?;
+        let certificate = certify(rules, &request, scan, asked, basis)?;
         self.day = day;
         Ok(certificate)
     }

@@ -58,6 +58,10 @@ pub struct Rules {
     pub corrected: i64,
     /// Number 14: The unrounded value at B is above 10000.
     pub at_basis: i64,
+    /// The gluten intercept is the protein intercept times 3.029: thousandths.
+    pub gluten_factor: i64,
+    /// A gluten certificate carries 1400 as B.
+    pub gluten_basis: i64,
     /// Its last week is 0..9999; number 19.
     pub last_week: i64,
     /// A set has 1 to 5 pairs; numbers 18 and 20.
@@ -111,6 +115,8 @@ impl Rules {
             basis: 5_000,
             corrected: 10_000,
             at_basis: 10_000,
+            gluten_factor: 3_029,
+            gluten_basis: 1_400,
             last_week: 9_999,
             pairs: 5,
             chart_average: 10_000,

@@ -6,7 +6,8 @@ use grain_model::sheet::Sample;
 use grain_model::station::BLANK;
 use grain_model::text::program;
 use grain_model::{
-    Basis, Book, Chart, Line, PastSet, Phase, Rules, Scan, Station, Test, Verdict, reading,
+    Asked, Basis, Book, Certificate, Chart, Line, PastSet, Phase, Rules, Scan, Station, Test,
+    Verdict, WheatClass, reading,
 };
 
 const NAMES: &str = "week sample original monitor\n";
@@ -318,7 +319,7 @@ fn market_figures() {
     let open = station(Phase::Open, 0, 10, &[(10, 0)]);
     let asked = |mut station: Station, day, percent: f32, basis| {
         let scan = Scan::Wheat(percent.to_bits());
-        let answer = station.market(&rules, day, 0, scan, basis);
+        let answer = station.market(&rules, day, 0, scan, Asked::LineFigure, basis);
         answer.map(|certificate| (certificate.corrected, certificate.at_basis))
     };
     assert_eq!(asked(open, 10, 13.54, Basis::Dry), Ok((135, 154)));
@@ -350,22 +351,223 @@ fn market_figures() {
 #[test]
 fn scans() {
     let rules = Rules::in_force();
-    let mut corn = Station::fresh(1);
+    let asked = |row, line, scan| {
+        let mut station = Station::fresh(row);
+        station.market(&rules, 0, line, scan, Asked::LineFigure, Basis::Dry)
+    };
     let nan = f32::NAN.to_bits();
     let scan = Scan::Corn([nan, 4_f32.to_bits(), nan]);
-    assert_eq!(corn.market(&rules, 0, 0, scan, Basis::Dry), Err(9));
-    assert_eq!(corn.market(&rules, 0, 1, scan, Basis::Dry), Err(12));
-    assert_eq!(corn.market(&rules, 0, 3, scan, Basis::Dry), Err(3));
-    assert_eq!(
-        corn.market(&rules, 0, 0, Scan::Wheat(nan), Basis::Dry),
-        Err(8)
-    );
-    assert_eq!(corn.market(&rules, 0, 0, Scan::Fault, Basis::Dry), Err(8));
-    assert_eq!(
-        Station::fresh(0).market(&rules, 0, 0, scan, Basis::Dry),
-        Err(8)
-    );
+    assert_eq!(asked(1, 0, scan), Err(9));
+    assert_eq!(asked(1, 1, scan), Err(12));
+    assert_eq!(asked(1, 3, scan), Err(3));
+    assert_eq!(asked(1, 0, Scan::Wheat(nan)), Err(8));
+    assert_eq!(asked(1, 0, Scan::WheatGluten(nan, nan)), Err(8));
+    assert_eq!(asked(1, 0, Scan::Fault), Err(8));
+    assert_eq!(asked(0, 0, scan), Err(8));
     assert_eq!(Station::open(&rules, 2), (Station::fresh(0), Err(1)));
+}
+
+const NAN: f32 = f32::NAN;
+const WINTER: Asked = Asked::Gluten(WheatClass::HardRedWinter);
+const SPRING: Asked = Asked::Gluten(WheatClass::HardRedSpring);
+const OTHER_CLASS: Asked = Asked::Gluten(WheatClass::Other);
+
+/// A wheat scan with gluten.
+fn wheat_scan(protein: f32, gluten: f32) -> Scan {
+    Scan::WheatGluten(protein.to_bits(), gluten.to_bits())
+}
+
+/// A wheat station that is open with this intercept, its newest set of day 10.
+fn open_wheat(intercept: i64) -> Station {
+    station(Phase::Open, intercept, 10, &[(10, 0), (9, 0)])
+}
+
+/// What is asked of a wheat station's line 0 on day 10.
+fn market(mut station: Station, scan: Scan, asked: Asked, basis: Basis) -> Result<Certificate, u8> {
+    station.market(&Rules::in_force(), 10, 0, scan, asked, basis)
+}
+
+/// Times 3.029, halves away from zero.
+#[test]
+fn derived_intercepts() {
+    let derived = |intercept: i64| {
+        let answer = market(
+            open_wheat(intercept),
+            wheat_scan(13.0, 40.0),
+            WINTER,
+            Basis::Standard,
+        );
+        answer.unwrap().intercept
+    };
+    let cases = [
+        (0, 0),
+        (1, 3),
+        (11, 33),
+        (17, 51),
+        (18, 55),
+        (499, 1511),
+        (500, 1515),
+        (501, 1518),
+        (1000, 3029),
+    ];
+    for (intercept, gluten) in cases {
+        assert_eq!(derived(intercept), gluten);
+        assert_eq!(derived(-intercept), -gluten);
+    }
+}
+
+#[test]
+fn gluten_figures() {
+    let asked = |intercept, percent, asked| {
+        let scan = wheat_scan(NAN, percent);
+        let answer = market(open_wheat(intercept), scan, asked, Basis::Standard);
+        answer.map(|certificate| (certificate.corrected, certificate.at_basis))
+    };
+    // The protein float may be anything.
+    let certificate = Certificate {
+        set_day: 10,
+        intercept: -33,
+        basis: 1400,
+        corrected: 338,
+        at_basis: 338,
+    };
+    let scan = wheat_scan(NAN, 34.08);
+    for class in [WINTER, SPRING] {
+        let answer = market(open_wheat(-11), scan, class, Basis::Standard);
+        assert_eq!(answer, Ok(certificate));
+    }
+    // h 3375 is a half of a tenth and goes up, 3374 goes down.
+    assert_eq!(asked(-11, 34.08, WINTER), Ok((338, 338)));
+    assert_eq!(asked(-11, 34.07, WINTER), Ok((337, 337)));
+    // 0.375 reads 38, and 38 with 27 is 65: the figure 0.7 lies 0.055 from 0.375 with 0.27.
+    assert_eq!(asked(9, 0.375, SPRING), Ok((7, 7)));
+    // 11 looks at gluten's h: with protein's intercept 6972 would be within.
+    assert_eq!(asked(1000, 69.72, WINTER), Err(11));
+    assert_eq!(asked(1000, 69.71, WINTER), Ok((1000, 1000)));
+    assert_eq!(asked(-1000, 30.28, WINTER), Err(11));
+    assert_eq!(asked(-1000, 30.29, WINTER), Ok((0, 0)));
+    assert_eq!(asked(0, 100.0, WINTER), Ok((1000, 1000)));
+    // 9 looks at gluten's float.
+    assert_eq!(asked(0, NAN, WINTER), Err(9));
+    assert_eq!(asked(0, -0.5, SPRING), Err(9));
+    assert_eq!(asked(0, 100.1, SPRING), Err(9));
+}
+
+/// 8, 23, 24, 9, 11, 12, 13 in this order.
+#[test]
+fn gluten_refusals() {
+    let asked = |scan, class, basis| market(open_wheat(0), scan, class, basis).map(|_| ());
+    let (good, bad) = (wheat_scan(NAN, 34.0), wheat_scan(13.0, NAN));
+    let percent = 34_f32.to_bits();
+    let bases = [
+        Basis::Dry,
+        Basis::Specified(1400),
+        Basis::Specified(1200),
+        Basis::Specified(9999),
+        Basis::Specified(-1),
+        Basis::AsIs(1400),
+        Basis::AsIs(i32::MIN),
+        Basis::Unknown,
+    ];
+    for basis in bases {
+        for class in [WINTER, SPRING] {
+            assert_eq!(asked(good, class, basis), Err(24));
+            assert_eq!(asked(bad, class, basis), Err(24));
+        }
+        assert_eq!(asked(good, OTHER_CLASS, basis), Err(23));
+    }
+    assert_eq!(asked(good, WINTER, Basis::Standard), Ok(()));
+    assert_eq!(asked(good, OTHER_CLASS, Basis::Standard), Err(23));
+    assert_eq!(asked(bad, OTHER_CLASS, Basis::Standard), Err(23));
+    assert_eq!(asked(bad, WINTER, Basis::Standard), Err(9));
+    // A missing gluten float comes before class and basis.
+    for scan in [Scan::Wheat(percent), Scan::Corn([percent; 3]), Scan::Fault] {
+        for class in [WINTER, SPRING, OTHER_CLASS] {
+            assert_eq!(asked(scan, class, Basis::Standard), Err(8));
+            assert_eq!(asked(scan, class, Basis::Specified(9999)), Err(8));
+        }
+    }
+    // The line's permission is the protein line's.
+    for phase in [Phase::New, Phase::CheckDue] {
+        let shut = station(phase, -1000, 10, &[]);
+        let asked = |scan| market(shut, scan, WINTER, Basis::Standard);
+        assert_eq!(asked(wheat_scan(50.0, 30.28)), Err(11));
+        assert_eq!(asked(wheat_scan(50.0, 30.29)), Err(12));
+    }
+    let rules = Rules::in_force();
+    let on = |day, line| {
+        let mut station = open_wheat(0);
+        let answer = station.market(&rules, day, line, good, WINTER, Basis::Standard);
+        answer.map(|certificate| (certificate.set_day, station.day))
+    };
+    assert_eq!(on(17, 0), Ok((10, 17)));
+    assert_eq!(on(18, 0), Err(13));
+    assert_eq!(on(9, 0), Err(2));
+    assert_eq!(on(10, 1), Err(3));
+}
+
+/// Without gluten asked a scan with gluten serves as a wheat value.
+#[test]
+fn gluten_not_asked() {
+    let open = open_wheat(12);
+    for gluten in [34.0, NAN, -1.0] {
+        for basis in [Basis::Standard, Basis::Dry, Basis::Unknown] {
+            let asked = |scan| market(open, scan, Asked::LineFigure, basis);
+            let plain = asked(Scan::Wheat(13.54_f32.to_bits()));
+            assert_eq!(asked(wheat_scan(13.54, gluten)), plain);
+        }
+        let asked = |scan| market(open, scan, Asked::LineFigure, Basis::Standard);
+        assert_eq!(asked(wheat_scan(NAN, gluten)), Err(9));
+    }
+}
+
+/// On a corn station gluten is 8 on every line, whatever the scan.
+#[test]
+fn gluten_of_corn() {
+    let rules = Rules::in_force();
+    let percent = 34_f32.to_bits();
+    let scans = [
+        Scan::Corn([percent; 3]),
+        Scan::Wheat(percent),
+        Scan::WheatGluten(percent, percent),
+        Scan::Fault,
+    ];
+    for scan in scans {
+        for class in [WINTER, SPRING, OTHER_CLASS] {
+            for basis in [Basis::Standard, Basis::Specified(1400), Basis::Unknown] {
+                let on = |line| Station::fresh(1).market(&rules, 0, line, scan, class, basis);
+                assert_eq!([0, 1, 2, 3].map(on), [8, 8, 8, 3].map(Err));
+            }
+        }
+    }
+}
+
+/// Changes -10 and +21 derive 33 from their sum 11; derived apart they would sum up to 34.
+#[test]
+fn the_book_derives_from_the_sum() {
+    let rules = Rules::in_force();
+    let (mut station, mut book) = (Station::fresh(0), Book::new(0));
+    for (s, change) in [(121, -10), (-252, 21), (0, 0)] {
+        let numbers = wheat_sheet(s, station.lines[0].intercept as i32);
+        let judged = station.sheet(&rules, 5, 0, &numbers).unwrap();
+        assert_eq!(judged.outcome.change, change);
+        assert_eq!(book.sheet(&rules, 5, 0, &numbers), Ok(judged.outcome));
+    }
+    let scan = wheat_scan(13.0, 34.02);
+    let certificate = Certificate {
+        set_day: 5,
+        intercept: 33,
+        basis: 1400,
+        corrected: 344,
+        at_basis: 344,
+    };
+    let asked = station.market(&rules, 6, 0, scan, SPRING, Basis::Standard);
+    assert_eq!(asked, Ok(certificate));
+    let asked = book.market(&rules, 6, 0, scan, SPRING, Basis::Standard);
+    assert_eq!(asked, Ok(certificate));
+    // The day moved.
+    let asked = book.market(&rules, 5, 0, scan, SPRING, Basis::Standard);
+    assert_eq!(asked, Err(2));
 }
 
 /// The average of each set is its sum over 5.

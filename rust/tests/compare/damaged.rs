@@ -33,7 +33,7 @@ pub fn numbers(rules: &mut Rules) -> Vec<(String, &mut i64)> {
             &mut limits.range_tolerance,
         );
     }
-    let single: [(&str, &mut i64); 16] = [
+    let single: [(&str, &mut i64); 18] = [
         ("last day", &mut rules.last_day),
         ("past days", &mut rules.past_days),
         ("newest days", &mut rules.newest_days),
@@ -43,6 +43,8 @@ pub fn numbers(rules: &mut Rules) -> Vec<(String, &mut i64)> {
         ("basis bound", &mut rules.basis),
         ("corrected value bound", &mut rules.corrected),
         ("value at B bound", &mut rules.at_basis),
+        ("gluten factor", &mut rules.gluten_factor),
+        ("gluten basis", &mut rules.gluten_basis),
         ("last week", &mut rules.last_week),
         ("pairs", &mut rules.pairs),
         ("chart average bound", &mut rules.chart_average),

@@ -6,8 +6,9 @@ use grain_model::{Judged, Line, PastSet, Phase, Station, Test, Verdict};
 
 use crate::encode;
 use crate::lent::Difference;
+use crate::markets::market;
 use crate::rng::Rng;
-use crate::stations::{Asked, Subject, Trial};
+use crate::stations::{Subject, Trial};
 
 /// What a list leans to.
 #[derive(Clone, Copy, PartialEq, Eq)]
@@ -96,7 +97,7 @@ pub fn openings(trial: &mut Trial) -> Result<(), Difference> {
 }
 
 /// The station for the generator to look at; for one that isn't sound a fresh one.
-fn seen(subject: &Subject) -> Station {
+pub fn seen(subject: &Subject) -> Station {
     let station = encode::station(&subject.places);
     match station.sound(&grain_model::Rules::in_force()) {
         true => station,
@@ -118,7 +119,7 @@ fn lines(station: &Station) -> usize {
 }
 
 /// Mostly a line of the grain.
-fn a_line(rng: &mut Rng, station: &Station) -> u64 {
+pub fn a_line(rng: &mut Rng, station: &Station) -> u64 {
     if rng.chance(97) {
         return rng.below(lines(station)) as u64;
     }
@@ -126,14 +127,14 @@ fn a_line(rng: &mut Rng, station: &Station) -> u64 {
 }
 
 /// The asked line, or line 0 for one that the grain doesn't have.
-fn line_of(station: &Station, line: u64) -> &Line {
+pub fn line_of(station: &Station, line: u64) -> &Line {
     let place = usize::try_from(line).unwrap_or(0);
     let lines = &station.lines[..lines(station)];
     lines.get(place).unwrap_or(&lines[0])
 }
 
 /// A day, mostly the station's or the next, or beside the edges of 7 and 14 days.
-fn a_day(rng: &mut Rng, station: &Station, line: &Line, ending: bool) -> u32 {
+pub fn a_day(rng: &mut Rng, station: &Station, line: &Line, ending: bool) -> u32 {
     let day = station.day;
     let edge = |rng: &mut Rng| match line.sets() {
         [] => day + 1,
@@ -297,9 +298,11 @@ impl Writer<'_> {
         sign * (limit * n + self.rng.pick(&[0, 0, 1, 1, -1])) - s
     }
 
-    /// An S that moves the intercept to its bound, or just not or just beyond.
+    /// An S that moves the intercept to its bound, or just not or just beyond; sometimes to 500
+    /// instead, where the gluten intercept is rounded at a half.
     fn bound(&mut self, n: i64) -> i64 {
-        let bound = self.rng.either_sign(1000);
+        let bound = self.rng.pick(&[1000, 1000, 1000, 500]);
+        let bound = self.rng.either_sign(bound);
         let beside = self.rng.range(-2, 2);
         let average = self.intercept - bound + beside;
         average * n + self.rng.pick(&[0, 0, n / 2, -n / 2, n / 2 - 1, 1 - n / 2])
@@ -596,177 +599,4 @@ fn count_samples(trial: &mut Trial, limits: &Limits, intercept: i64, numbers: &[
             > 1;
         met.branch_if(equal, "sheet: equal spreads");
     }
-}
-
-// Market tests.
-
-/// The float nearest to so many hundredths, or one beside it, or beside the half above it.
-pub fn a_float(rng: &mut Rng, hundredths: i64) -> u32 {
-    let half = if rng.chance(30) { 0.5 } else { 0.0 };
-    let float = ((hundredths as f64 + half) / 100.0) as f32;
-    let beside = if rng.chance(60) { 0 } else { rng.range(-2, 2) };
-    float.to_bits().wrapping_add(beside as u32)
-}
-
-/// Floats at and beside the ends of what number 9 allows, and what is no finite number.
-pub const EDGE_FLOATS: [u32; 16] = [
-    0,
-    1,
-    0x007F_FFFF,
-    0x0080_0000,
-    0x8000_0000,
-    0x8000_0001,
-    0xBF80_0000,
-    0x42C7_FFFF,
-    0x42C8_0000,
-    0x42C8_0001,
-    0x7F7F_FFFF,
-    0x7F80_0000,
-    0xFF80_0000,
-    0x7F80_0001,
-    0x7FC0_0000,
-    0xFFFF_FFFF,
-];
-
-/// B, the kind of basis and its number.
-fn a_basis(rng: &mut Rng, row: i64) -> (i64, u32, i32) {
-    let standard = if row == 0 { 1200 } else { 0 };
-    let given = match rng.below(10) {
-        0..6 => rng.range(0, 5000),
-        6 => standard,
-        _ => rng.pick(&[-1, 0, 1, 1199, 1200, 1201, 4999, 5000, 5001]),
-    };
-    match rng.below(32) {
-        0..8 => (standard, 0, rng.bits() as i32),
-        8..16 => (0, 1, rng.bits() as i32),
-        16..24 => (given, 2, given as i32),
-        24..28 => (given, 3, given as i32),
-        28..31 => {
-            let given = rng.pick(&[i32::MIN, i32::MAX, -5000, 10_000, 65_536]);
-            (i64::from(given), rng.pick(&[2, 3]), given)
-        }
-        // A kind that there isn't, mostly with a number that would do.
-        _ => {
-            let kind = rng.pick(&[4, 5, 7, 8, 255, 256, 258, 1 << 31, u32::MAX]);
-            (given, kind, given as i32)
-        }
-    }
-}
-
-fn market(trial: &mut Trial, subject: &mut Subject, ending: bool) -> Result<(), Difference> {
-    let station = seen(subject);
-    let rng = &mut trial.rng;
-    let line = a_line(rng, &station);
-    let held = line_of(&station, line);
-    let day = a_day(rng, &station, held, ending);
-    let (b, basis_kind, basis) = a_basis(rng, station.row);
-    let standard = if station.row == 0 { 1200 } else { 0 };
-    // The largest h whose value at B is not above 10000.
-    let largest = match (0..10_000).contains(&b) {
-        true => 10_000 * (10_000 - standard) / (10_000 - b),
-        false => 10_000,
-    };
-    let h = match rng.below(10) {
-        0..5 => rng.range(200, 2500),
-        5 => rng.range(0, 10_000),
-        6 => rng.pick(&[-1, 0, 10_000, 10_001]),
-        7 => rng.range(0, 999) * 10 + 5,
-        _ => largest + rng.range(-1, 1),
-    };
-    let reading = (h - held.intercept).clamp(0, 10_000);
-    let mut floats = [0; 3].map(|_| match rng.chance(90) {
-        true => a_float(rng, reading),
-        false => rng.pick(&EDGE_FLOATS),
-    });
-    if rng.chance(20) {
-        let other = (line as usize % 3 + 1) % 3;
-        floats[other] = rng.pick(&EDGE_FLOATS);
-    }
-    let scan_kind = match rng.below(100) {
-        0..94 => station.row as u32,
-        94..97 => 1 - station.row as u32,
-        _ => rng.pick(&[2, 3, 255, 256, 257, 1 << 31, u32::MAX]),
-    };
-    let asked = Asked {
-        day,
-        line,
-        scan_kind,
-        floats,
-        basis_kind,
-        basis,
-    };
-    let answer = trial.market(subject, asked)?;
-    count_market(trial, &station, held, asked, answer);
-    Ok(())
-}
-
-/// The branches of a market test.
-fn count_market(
-    trial: &mut Trial,
-    station: &Station,
-    line: &Line,
-    asked: Asked,
-    answer: Result<grain_model::Certificate, u8>,
-) {
-    let met = &mut trial.met;
-    let age = line
-        .sets()
-        .first()
-        .map(|newest| i64::from(asked.day) - newest.day);
-    let fault = asked.scan_kind > 1 && line.phase() != Phase::Open;
-    let refused = |number| answer == Err(number);
-    met.branch_if(
-        refused(8) && fault,
-        "market: fault on a line that isn't open",
-    );
-    met.branch_if(
-        refused(8) && asked.scan_kind < 2,
-        "market: another grain's scan",
-    );
-    let no_scan = refused(8) && asked.scan_kind > 255;
-    met.branch_if(no_scan, "market: no such kind of scan");
-    let no_basis = asked.basis_kind > 3 && (0..=5000).contains(&asked.basis);
-    met.branch_if(refused(10) && no_basis, "market: no such kind of basis");
-    met.branch_if(
-        refused(9) && no_basis,
-        "market: a float out of bounds before the kind of basis",
-    );
-    let not_open = line.phase() != Phase::Open;
-    met.branch_if(
-        refused(10) && no_basis && not_open,
-        "market: the kind of basis before a line that isn't open",
-    );
-    met.branch_if(
-        refused(13) && age == Some(8),
-        "market: newest set 8 days old",
-    );
-    let Ok(certificate) = answer else {
-        return;
-    };
-    met.branch_if(age == Some(7), "market: newest set 7 days old");
-    met.branch(match (station.row, asked.line) {
-        (0, _) => "market: certified, wheat",
-        (_, 0) => "market: certified, corn protein",
-        (_, 1) => "market: certified, corn oil",
-        _ => "market: certified, corn starch",
-    });
-    met.branch(match asked.basis_kind {
-        0 => "market: standard basis",
-        1 => "market: dry basis",
-        2 => "market: specified basis",
-        _ => "market: as-is basis",
-    });
-    let given = asked.basis_kind > 1 && [0, 5000].contains(&certificate.basis);
-    met.branch_if(given, "market: basis 0 or 5000 given");
-    let place = asked.line as usize;
-    let reading = grain_model::reading(asked.floats[place]).unwrap();
-    let h = reading + certificate.intercept;
-    met.branch_if(h == 0, "market: h is 0");
-    met.branch_if(h == 10_000, "market: h is 10000");
-    let standard = if station.row == 0 { 1200 } else { 0 };
-    let at_most = h * (10_000 - certificate.basis) == 10_000 * (10_000 - standard);
-    met.branch_if(at_most, "market: value at B is 10000");
-    let damaged = |&float: &u32| grain_model::reading(float).is_err();
-    let others = station.row == 1 && asked.floats.iter().any(damaged);
-    met.branch_if(others, "market: other floats of the corn set damaged");
 }

@@ -10,6 +10,7 @@ mod damaged;
 mod encode;
 mod lent;
 mod lists;
+mod markets;
 mod met;
 mod readings;
 mod rng;

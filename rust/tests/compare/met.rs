@@ -14,7 +14,7 @@ const CALLS: &[(&str, &[usize])] = &[
     ("open", &[1]),
     ("sheet", &[0, 2, 3, 4, 5, 6, 7]),
     ("repair", &[0, 2]),
-    ("market", &[0, 2, 3, 8, 9, 10, 11, 12, 13, 14]),
+    ("market", &[0, 2, 3, 8, 23, 24, 9, 10, 11, 12, 13, 14]),
     ("chart open", &[1]),
     ("chart set", &[0, 19, 20, 21, 22]),
     ("chart text", &[15, 16, 17, 18, 19, 21, 22]),
@@ -24,7 +24,7 @@ const CALLS: &[(&str, &[usize])] = &[
 #[derive(Clone, Copy, Default)]
 struct Count {
     compared: u64,
-    refused: [u64; 23],
+    refused: [u64; 25],
 }
 
 /// The branches, each of which must be met. The generators and comparisons name them.
@@ -109,6 +109,48 @@ const BRANCHES: &[&str] = &[
     "market: no such kind of basis",
     "market: a float out of bounds before the kind of basis",
     "market: the kind of basis before a line that isn't open",
+    // Market tests with a gluten float or with gluten asked for.
+    "market: certified, gluten of Hard Red Winter",
+    "market: certified, gluten of Hard Red Spring",
+    "market: gluten float not looked at",
+    "market: protein float not looked at",
+    "market: protein's float refused, gluten's not",
+    "market: gluten's float refused, protein's not",
+    "market: gluten asked, no gluten float",
+    "market: a missing gluten float before class and basis",
+    "market: gluten asked of a corn scan",
+    "market: gluten asked, fault",
+    "market: gluten asked on a corn station, line 0",
+    "market: gluten asked on a corn station, line 1",
+    "market: gluten asked on a corn station, line 2",
+    "market: gluten asked of a gluten scan on a corn station",
+    "market: a gluten scan on a corn station",
+    "market: gluten asked on wheat line 1",
+    "market: gluten of another class",
+    "market: asked above 3",
+    "market: gluten's class before its basis",
+    "market: gluten's class before its float",
+    "market: gluten's basis before its float",
+    "market: gluten's class or basis before a line that isn't open",
+    "market: gluten basis dry",
+    "market: gluten basis specified 1200",
+    "market: gluten basis specified 1400",
+    "market: gluten basis as-is 1400",
+    "market: gluten basis outside 0 to 5000",
+    "market: gluten with a kind of basis that there isn't",
+    "market: gluten, newest set 7 days old",
+    "market: gluten, newest set 8 days old",
+    "market: gluten, line not open",
+    "market: gluten's h out of bounds before a line that isn't open",
+    "market: gluten's h is 0",
+    "market: gluten's h is 10000",
+    "market: gluten's h above 10000 where protein's wouldn't be",
+    "market: gluten's h below 0 where protein's wouldn't be",
+    "market: gluten's figure rounded at a half",
+    "market: derived intercept rounded at a half, above zero",
+    "market: derived intercept rounded at a half, below zero",
+    "market: derived intercept 3029",
+    "market: derived intercept -3029",
     // Stations handed in.
     "station: row doesn't exist",
     "station: row negative",
@@ -252,7 +294,7 @@ impl Met {
             };
             counts.extend(numbers.iter().map(refused));
         }
-        counts.extend((0..23).map(|number| (format!("refusal {number}"), self.refused(number))));
+        counts.extend((0..25).map(|number| (format!("refusal {number}"), self.refused(number))));
         let branches = BRANCHES
             .iter()
             .map(|name| ((*name).to_string(), self.branches[name]));

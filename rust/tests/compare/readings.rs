@@ -1,7 +1,7 @@
 //! Readings over a dense sample of floats.
 
 use crate::lent::Difference;
-use crate::lists::EDGE_FLOATS;
+use crate::markets::EDGE_FLOATS;
 use crate::stations::Trial;
 
 /// Every exponent and sign with edge and random fractions; floats beside each hundredth and half

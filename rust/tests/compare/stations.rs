@@ -25,21 +25,32 @@ pub struct Subject {
 
 /// The arguments of a market test, as the C interface takes them.
 #[derive(Clone, Copy, Debug)]
-pub struct Asked {
+pub struct Request {
     pub day: u32,
     pub line: u64,
     pub scan_kind: u32,
     pub floats: [u32; 3],
+    pub asked: u32,
     pub basis_kind: u32,
     pub basis: i32,
 }
 
-impl Asked {
+impl Request {
     fn scan(&self) -> model::Scan {
         match self.scan_kind {
             0 => model::Scan::Wheat(self.floats[0]),
             1 => model::Scan::Corn(self.floats),
+            3 => model::Scan::WheatGluten(self.floats[0], self.floats[1]),
             _ => model::Scan::Fault,
+        }
+    }
+
+    fn asked(&self) -> model::Asked {
+        match self.asked {
+            0 => model::Asked::LineFigure,
+            1 => model::Asked::Gluten(model::WheatClass::HardRedWinter),
+            2 => model::Asked::Gluten(model::WheatClass::HardRedSpring),
+            _ => model::Asked::Gluten(model::WheatClass::Other),
         }
     }
 
@@ -62,7 +73,20 @@ impl Asked {
                 oil,
                 starch,
             },
+            3 => grain::Scan::WheatGluten {
+                protein,
+                gluten: oil,
+            },
             code => grain::Scan::Fault(code as u8),
+        }
+    }
+
+    fn wrapped_asked(&self) -> grain::Asked {
+        match self.asked {
+            0 => grain::Asked::LineFigure,
+            1 => grain::Asked::Gluten(grain::WheatClass::HardRedWinter),
+            2 => grain::Asked::Gluten(grain::WheatClass::HardRedSpring),
+            _ => grain::Asked::Gluten(grain::WheatClass::Other),
         }
     }
 
@@ -308,42 +332,45 @@ impl Trial {
     pub fn market(
         &mut self,
         subject: &mut Subject,
-        asked: Asked,
+        request: Request,
     ) -> Result<Result<Certificate, u8>, Difference> {
         let before = subject.places;
         let mut station = encode::station(&before);
-        let (scan, basis) = (asked.scan(), asked.basis());
-        let answer = station.market(&self.rules, asked.day, asked.line, scan, basis);
+        let (day, line) = (request.day, request.line);
+        let (scan, asked, basis) = (request.scan(), request.asked(), request.basis());
+        let answer = station.market(&self.rules, day, line, scan, asked, basis);
         let after = Trial::after(&before, &station, &answer);
-        let what = || format!("market test {asked:?} of {before:?}");
+        let what = || format!("market test {request:?} of {before:?}");
 
         let mut state = Lent::of(&mut self.rng, &before);
-        let [first, second, third] = asked.floats.map(f32::from_bits);
+        let [first, second, third] = request.floats.map(f32::from_bits);
         // SAFETY: a station's places are lent.
         let core = unsafe {
             ffi::grain_market(
                 state.pointer().cast(),
-                asked.day,
-                asked.line,
-                asked.scan_kind,
+                day,
+                line,
+                request.scan_kind,
                 first,
                 second,
                 third,
-                asked.basis_kind,
-                asked.basis,
+                request.asked,
+                request.basis_kind,
+                request.basis,
             )
         };
         same(what, core, certificate(answer))?;
         state.holds(what, &after)?;
 
-        if let Some(basis) = asked.wrapped_basis() {
+        if let Some(basis) = request.wrapped_basis() {
             let mut wrapper = grain::Station::from_places(before);
-            let wrapped = wrapper.market(asked.day, asked.line, asked.wrapped_scan(), basis);
+            let (scan, asked) = (request.wrapped_scan(), request.wrapped_asked());
+            let wrapped = wrapper.market(day, line, scan, asked, basis);
             same(what, number(wrapped).map(told_certificate), answer)?;
             same(what, wrapper.places(), after)?;
         }
         if let Some(book) = &mut subject.book {
-            let told = book.market(&self.rules, asked.day, asked.line, scan, basis);
+            let told = book.market(&self.rules, day, line, scan, asked, basis);
             same(|| "the book on this market test".to_string(), told, answer)?;
         }
         self.met.call("market", answer.err());

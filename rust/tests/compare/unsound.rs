@@ -57,7 +57,8 @@ pub fn sound_station(rng: &mut Rng) -> Station {
     let lines = if row == 0 { 1 } else { 3 };
     for line in &mut station.lines[..lines] {
         line.intercept = match rng.below(4) {
-            0 => rng.pick(&[-1000, 1000]),
+            // The bounds, and where the gluten intercept is rounded at a half.
+            0 => rng.pick(&[-1000, -500, 500, 1000]),
             _ => rng.range(-1000, 1000),
         };
         if rng.chance(20) {

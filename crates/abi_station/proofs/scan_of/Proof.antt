@@ -15,7 +15,13 @@ unfolding scanOf
 returns-2 c = let s = c .before .args in sym (ap (λ (k : ℕ). scanOf k (s .first) (s .second) (s .third)) (c .match .keys2))
 
 returns-3 : tie.Need-returns-3
-returns-3 c = let s = c .before .args in fault-scan (s .kind) (s .first) (s .second) (s .third) (omega (arith, c .match .rest))
+unfolding scanOf
+returns-3 c = let s = c .before .args in sym (ap (λ (k : ℕ). scanOf k (s .first) (s .second) (s .third)) (c .match .keys3))
+
+returns-4 : tie.Need-returns-4
+returns-4 c =
+    let s = c .before .args in
+    fault-scan (s .kind) (s .first) (s .second) (s .third) (omega (arith, c .match .rest)) (λ e. omega (arith, c .match .rest))
 
 pub scan-of-spec : {M : Type 1} → statement M
-scan-of-spec = tie.close (tie.spec returns returns-2 returns-3)
+scan-of-spec = tie.close (tie.spec returns returns-2 returns-3 returns-4)

@@ -47,7 +47,7 @@ is-sound-requires c κs = search needs
 returns : tie.Need-returns
 returns c =
     let s = c .before .before in
-    answer-unsound (station s) (s .args .day) (s .args .line) (s .args .scan) (s .args .basis) (sym (c .before .is-sound .ensures) ∙ not-true _ (c .if1 .taken))
+    answer-unsound (station s) (s .args .day) (s .args .line) (s .args .scan) (s .args .asked) (s .args .basis) (sym (c .before .is-sound .ensures) ∙ not-true _ (c .if1 .taken))
 
 day-of-requires : tie.Need-day-of-requires
 day-of-requires c κs = full c
@@ -58,7 +58,7 @@ is-bad-day-requires c κs = search needs
 returns-2 : tie.Need-returns-2
 returns-2 c =
     let s = c .before .before .before .before .before in
-    answer-day (station s) (s .args .day) (s .args .line) (s .args .scan) (s .args .basis) (right (c .before .before .before)) (sym (bad-is (c .before)) ∙ c .if2 .taken)
+    answer-day (station s) (s .args .day) (s .args .line) (s .args .scan) (s .args .asked) (s .args .basis) (right (c .before .before .before)) (sym (bad-is (c .before)) ∙ c .if2 .taken)
 
 row-of-requires : tie.Need-row-of-requires
 row-of-requires c κs = full (c .before .before .before)
@@ -72,7 +72,7 @@ returns-3 c =
     let s = e .before .before .before .before .before in
     let few = c .if3 .taken in
     let lines = lines-are (c .before) in
-    answer-line (station s) (s .args .day) (s .args .line) (s .args .scan) (s .args .basis) (right (e .before .before .before)) (good e) (omega arith)
+    answer-line (station s) (s .args .day) (s .args .line) (s .args .scan) (s .args .asked) (s .args .basis) (right (e .before .before .before)) (good e) (omega arith)
 
 line-of-requires : tie.Need-line-of-requires
 line-of-requires c κs =
@@ -95,8 +95,8 @@ returns-4 c =
     let e = f .before .before .before in
     let s = e .before .before .before .before .before in
     c .judge-scan .ensures
-    ∙ ap₂ (λ (row : ℕ) (l : Line). testedOf row (lineValues l) (s .args .day) (s .args .line) (s .args .scan) (s .args .basis)) (f .before .before .row-of .ensures) (c .before .line-of .ensures)
-    ∙ answer-tested (station s) (s .args .day) (s .args .line) (s .args .scan) (s .args .basis) (right (e .before .before .before)) (good e) (here f)
+    ∙ ap₂ (λ (row : ℕ) (l : Line). testedOf row (lineValues l) (s .args .day) (s .args .line) (s .args .scan) (s .args .asked) (s .args .basis)) (f .before .before .row-of .ensures) (c .before .line-of .ensures)
+    ∙ answer-tested (station s) (s .args .day) (s .args .line) (s .args .scan) (s .args .asked) (s .args .basis) (right (e .before .before .before)) (good e) (here f)
 
 pub answer-spec : {M : Type 1} → statement M
 answer-spec =

@@ -18,7 +18,7 @@ put-day-requires c κs =
     let k = c .before .before in
     let a = k .before .before in
     let s = a .before .before .args in
-    let o = in-order (stationIn (s .state .now)) (s .day) (s .line) (s .scan) (s .basis) _ (sym (k .given .given .1) ∙ a .answer .ensures) in
+    let o = in-order (stationIn (s .state .now)) (s .day) (s .line) (s .scan) (s .asked) (s .basis) _ (sym (k .given .given .1) ∙ a .answer .ensures) in
     (all-places (s .state .now) (o .0), o .1)
 
 enum-known-given-2 : tie.Need-enum-known-given-2
@@ -33,7 +33,7 @@ returns c =
     let a = k .before .before in
     let s = a .before .before .args in
     (λ i. record { answer = Certified (k .given .given .0 .0); places = c .before .put-day .ensures i })
-    ∙ left-by (s .state .now) (s .day) (s .line) (s .scan) (s .basis) (Certified (k .given .given .0 .0)) (sym (k .given .given .1) ∙ a .answer .ensures)
+    ∙ left-by (s .state .now) (s .day) (s .line) (s .scan) (s .asked) (s .basis) (Certified (k .given .given .0 .0)) (sym (k .given .given .1) ∙ a .answer .ensures)
 
 same-length-2 : tie.Need-same-length-2
 same-length-2 c = search needs
@@ -43,7 +43,7 @@ returns-2 c =
     let k = c .before in
     let a = k .before .before in
     let s = a .before .before .args in
-    left-by (s .state .now) (s .day) (s .line) (s .scan) (s .basis) (Refused (k .given2 .given .0 .0)) (sym (k .given2 .given .1) ∙ a .answer .ensures)
+    left-by (s .state .now) (s .day) (s .line) (s .scan) (s .asked) (s .basis) (Refused (k .given2 .given .0 .0)) (sym (k .given2 .given .1) ∙ a .answer .ensures)
 
 pub market-spec : {M : Type 1} → statement M
 market-spec =

@@ -3,15 +3,12 @@ use mathlib.Core.Bool.{true}
 use Prim.Native.Nat.{_+_, _≤_}
 use native.Mathlib.Omega.{arith}
 use lib.IntN.{natAbs}
-use mir.Syntax.{w32}
-use mir.Val.{SFits}
 use borrow.Author.Tests.{not-true, not-false}
-use Rattle.whole.proofs.Read.{back, back-in}
+use Rattle.whole.proofs.Read.{back-in}
 use Rattle.station_rules.specs.Held.{lineValues, phaseWord}
 use Rattle.station_rules.specs.Markets.{isOpen, newestDay, tooHigh, tenths, tenthsAt}
-use Rattle.market_figures.proofs.FigureLaws.{in-range}
+use Rattle.station_rules.proofs.Figures.{in-range}
 use Rattle.market_certificate.proofs.CertifiedLaws.{not-open, too-old, too-high, certified}
-use borrow.Author.Needs.{needs}
 use Rattle.market_certificate.proofs.certify.Statement.{statement}
 use Rattle.market_certificate.proofs.certify.Tie as tie
 
@@ -38,10 +35,10 @@ is-open-requires c κs = tt
 returns : tie.Need-returns
 returns c =
     let s = c .before .before .args in
-    not-open (s .a) (lineValues (s .l)) (s .day) (s .b .z) (s .h .z) (sym (c .before .is-open .ensures) ∙ not-true _ (c .if1 .taken))
+    not-open (s .a) (lineValues (s .l)) (s .day) (s .i .z) (s .b .z) (s .h .z) (sym (c .before .is-open .ensures) ∙ not-true _ (c .if1 .taken))
 
 newest-day-requires : tie.Need-newest-day-requires
-newest-day-requires c κs = c .before .before .before .pre .0 .1 .held
+newest-day-requires c κs = c .before .before .before .pre .0 .1 .0 .held
 
 add-if2 : tie.Need-add-if2
 add-if2 c = let most = c .newest-day .ensures .1 in omega arith
@@ -52,7 +49,7 @@ returns-2 c =
     let s = e .before .before .args in
     let newest = c .before .newest-day .ensures .0 in
     let old = c .if2 .taken in
-    too-old (s .a) (lineValues (s .l)) (s .day) (s .b .z) (s .h .z) (open-in e) (omega arith)
+    too-old (s .a) (lineValues (s .l)) (s .day) (s .i .z) (s .b .z) (s .h .z) (open-in e) (omega arith)
 
 to-u32-requires : tie.Need-to-u32-requires
 to-u32-requires c κs =
@@ -82,7 +79,7 @@ returns-3 c =
     let e2 = c .before .before .before .before in
     let e = e2 .before .before .before in
     let s = e .before .before .args in
-    too-high (s .a) (lineValues (s .l)) (s .day) (s .b .z) (s .h .z) (open-in e) (recent-in e2) (sym (too-high-is (c .before)) ∙ c .if3 .taken)
+    too-high (s .a) (lineValues (s .l)) (s .day) (s .i .z) (s .b .z) (s .h .z) (open-in e) (recent-in e2) (sym (too-high-is (c .before)) ∙ c .if3 .taken)
 
 in-tenths-requires : tie.Need-in-tenths-requires
 in-tenths-requires c κs =
@@ -110,11 +107,10 @@ returns-4 c =
     let e = e2 .before .before .before in
     let start = e .before .before in
     let s = start .args in
-    let f : SFits w32 (s .l .intercept) = search needs in
-    certified (s .a) (lineValues (s .l)) (s .day) (s .b .z) (s .h .z) (open-in e) (recent-in e2) (sym (too-high-is (e3 .before)) ∙ e3 .if3 .left) _
+    certified (s .a) (lineValues (s .l)) (s .day) (s .i .z) (s .b .z) (s .h .z) (open-in e) (recent-in e2) (sym (too-high-is (e3 .before)) ∙ e3 .if3 .left) _
     (λ i. record {
       day = e2 .before .newest-day .ensures .0 i;
-      intercept = back f .is i;
+      intercept = back-in (start .pre .0 .1 .1) tt tt .is i;
       basis = back-in (in-range 5000 (s .b .z) (start .pre .1 .0)) tt tt .is i;
       figure = (c .before .before .before .in-tenths .ensures ∙ ap tenths (value-is n)) i;
       converted = (c .before .before .in-tenths-at .ensures ∙ ap₂ (tenthsAt (s .a)) (basis-is (n .before)) (value-is n)) i;

@@ -1,62 +1,34 @@
 use mathlib.Core.Path.{_∙_, sym, ap}
-use Rattle.station_rules.specs.declared.Scan.{Scan}
-use Rattle.market_scan.specs.Scans.{pickedOf}
-use Rattle.market_scan.specs.declared.Picked.{Picked}
-use Rattle.market_scan.proofs.ScanLaws.{wheat-here, wheat-wrong, corn-here, corn-wrong, fault-wrong}
 use borrow.Author.Needs.{needs}
+use Rattle.station_rules.specs.declared.Asked.{Asked}
+use Rattle.market_scan.specs.Scans.{pickedOf}
+use Rattle.market_scan.proofs.ScanLaws.{line-picked, gluten-picked}
 use Rattle.market_scan.proofs.pick.Statement.{statement}
 use Rattle.market_scan.proofs.pick.Tie as tie
-
-abbrev picked : tie.Start → Scan → Picked
-picked s scan = pickedOf (s .args .row) scan (s .args .line)
-
-enum-known-scan : tie.Need-enum-known-scan
-enum-known-scan c = search needs
-
-enum-known-scan-2 : tie.Need-enum-known-scan-2
-enum-known-scan-2 c = search needs
-
-corn-value-requires : tie.Need-corn-value-requires
-corn-value-requires c κs = tt
 
 enum-told : tie.Need-enum-told
 enum-told c = search needs
 
+line-float-requires : tie.Need-line-float-requires
+line-float-requires c κs = search needs
+
+enum-told-2 : tie.Need-enum-told-2
+enum-told-2 c = search needs
+
+gluten-float-requires : tie.Need-gluten-float-requires
+gluten-float-requires c κs = search needs
+
 returns : tie.Need-returns
 returns c =
-    let s = c .before .before .before .before in
-    wheat-here (s .args .row) (s .args .line) _ (c .if1 .taken) ∙ sym (ap (picked s) (c .before .before .scan .given .1))
+    let s = c .before .before .before .args in
+    c .line-float .ensures ∙ line-picked (s .row) (s .line) (s .scan) ∙ sym (ap (λ (a : Asked). pickedOf (s .row) (s .scan) a (s .line)) (c .before .enum-told .given .1))
 
 returns-2 : tie.Need-returns-2
 returns-2 c =
-    let s = c .before .before .before .before in
-    wheat-wrong (s .args .row) (s .args .line) _ (c .if1 .left) ∙ sym (ap (picked s) (c .before .before .scan .given .1))
-
-returns-3 : tie.Need-returns-3
-returns-3 c =
-    let s = c .before .before .before .before in
-    corn-wrong (s .args .row) (s .args .line) _ (c .if2 .taken) ∙ sym (ap (picked s) (c .before .before .scan2 .given .1))
-
-returns-4 : tie.Need-returns-4
-returns-4 c =
-    let s = c .before .before .before .before .before in
-    corn-here (s .args .row) (s .args .line) _ (c .before .if2 .left) (c .corn-value .ensures) ∙ sym (ap (picked s) (c .before .before .before .scan2 .given .1))
-
-returns-5 : tie.Need-returns-5
-returns-5 c =
-    let s = c .before .before in
-    fault-wrong (s .args .row) (s .args .line) _ ∙ sym (ap (picked s) (c .enum-told .given .1))
+    let s = c .before .before .before .args in
+    c .gluten-float .ensures ∙ gluten-picked (s .row) (s .line) (s .scan) _ ∙ sym (ap (λ (a : Asked). pickedOf (s .row) (s .scan) a (s .line)) (c .before .enum-told2 .given .1))
 
 pub pick-spec : {M : Type 1} → statement M
 pick-spec =
     tie.close
-    (tie.spec
-    enum-known-scan
-    enum-known-scan-2
-    corn-value-requires
-    enum-told
-    returns
-    returns-2
-    returns-3
-    returns-4
-    returns-5)
+    (tie.spec enum-told line-float-requires enum-told-2 gluten-float-requires returns returns-2)

@@ -49,6 +49,12 @@ enum-told-14 c = search needs
 enum-told-15 : tie.Need-enum-told-15
 enum-told-15 c = search needs
 
+enum-told-16 : tie.Need-enum-told-16
+enum-told-16 c = search needs
+
+enum-told-17 : tie.Need-enum-told-17
+enum-told-17 c = search needs
+
 returns : tie.Need-returns
 returns c = sym (ap numberOf (c .enum-told .given .1))
 
@@ -94,6 +100,12 @@ returns-14 c = sym (ap numberOf (c .enum-told14 .given .1))
 returns-15 : tie.Need-returns-15
 returns-15 c = sym (ap numberOf (c .enum-told15 .given .1))
 
+returns-16 : tie.Need-returns-16
+returns-16 c = sym (ap numberOf (c .enum-told16 .given .1))
+
+returns-17 : tie.Need-returns-17
+returns-17 c = sym (ap numberOf (c .enum-told17 .given .1))
+
 pub number-spec : {M : Type 1} → statement M
 number-spec =
     tie.close
@@ -113,6 +125,8 @@ number-spec =
     enum-told-13
     enum-told-14
     enum-told-15
+    enum-told-16
+    enum-told-17
     returns
     returns-2
     returns-3
@@ -127,4 +141,6 @@ number-spec =
     returns-12
     returns-13
     returns-14
-    returns-15)
+    returns-15
+    returns-16
+    returns-17)
