@@ -1,5 +1,5 @@
-/* The core beside plain C: first both are given random and hostile calls, and every byte of their answers and states is
- * compared; then they are timed.
+/* The core beside plain C: first both are given random and hostile calls, a sheet also with its samples in another order,
+ * and every byte of their answers and states is compared; then they are timed.
  *
  *     cc -O2 -Iinclude bench/bench.c bench/plain.c target/staticlib/libabi.a -o target/bench
  *     target/bench          21 rounds after one to warm up
@@ -136,7 +136,7 @@ static size_t fill_text(uint8_t *text, size_t least)
 
 enum { CALLS = 200000, TEXTS = 20000, GUARD = 16 };
 
-static uint64_t gluten_certified, compared, accepted[8], refused[25];
+static uint64_t gluten_certified, compared, accepted[8], refused[25], moved_accepted, moved_refused[8];
 
 /* Counts an answer; its first two words are accepted and number. */
 static void count(int call, const void *answer)
@@ -150,15 +150,16 @@ static void count(int call, const void *answer)
         refused[head[1]]++;
 }
 
-static void same(const char *what, const void *by_core, const void *by_plain, size_t size)
+/* Exits unless both are the same: the core's and plain C's, or a sheet's as given and in another order. */
+static void same(const char *what, const void *first, const void *second, size_t size)
 {
-    if (memcmp(by_core, by_plain, size) == 0)
+    if (memcmp(first, second, size) == 0)
         return;
     fprintf(stderr, "bench: call %" PRIu64 ", %s differs\n", compared, what);
     for (size_t i = 0; i < size; i++) {
-        const uint8_t *one = by_core, *other = by_plain;
+        const uint8_t *one = first, *other = second;
         if (one[i] != other[i])
-            fprintf(stderr, "  byte %zu: core %u, plain %u\n", i, (unsigned)one[i], (unsigned)other[i]);
+            fprintf(stderr, "  byte %zu: %u and %u\n", i, (unsigned)one[i], (unsigned)other[i]);
     }
     exit(1);
 }
@@ -225,29 +226,70 @@ static uint64_t some_line(const struct grain_station *station)
     return some_row_or_line(station->row == 1 ? 2 : 0);
 }
 
+/* Puts a sheet's samples into another order; the numbers behind the last whole sample stay at the end. */
+static void move_samples(int32_t *numbers, size_t length)
+{
+    for (size_t left = length / 6; left > 1; left--) {
+        int32_t *last = numbers + 6 * (left - 1), *one = numbers + 6 * (bits() % left), sample[6];
+        memcpy(sample, last, sizeof sample);
+        memmove(last, one, sizeof sample);
+        memcpy(one, sample, sizeof sample);
+    }
+}
+
+/* A sheet's day, line and numbers. */
+struct sheet {
+    uint32_t day;
+    uint64_t line;
+    size_t length;
+    int32_t numbers[48];
+};
+
+static struct grain_outcome both_sheets(struct guarded_station *by_core, struct guarded_station *by_plain,
+                                        struct sheet sheet)
+{
+    struct sheet copy = sheet;
+    struct grain_outcome one = core.sheet(&by_core->station, sheet.day, sheet.line,
+                                          sheet.length ? sheet.numbers : NULL, sheet.length);
+    struct grain_outcome other = plain.sheet(&by_plain->station, copy.day, copy.line, copy.numbers, copy.length);
+    same("a sheet's answer", &one, &other, sizeof one);
+    same("a sheet's numbers", sheet.numbers, copy.numbers, sizeof copy.numbers);
+    same("a sheet's station", by_core, by_plain, sizeof *by_core);
+    count(2, &one);
+    return one;
+}
+
+/* A sheet; then the same samples in another order on the stations as they were: the core must answer and leave the same, and
+ * both_sheets holds plain C to the core. */
 static void compare_sheet(struct guarded_station *by_core, struct guarded_station *by_plain)
 {
     struct grain_station *station = &by_core->station;
-    uint32_t day = some_day(station);
-    uint64_t line = some_line(station);
+    struct guarded_station then_core = *by_core, then_plain = *by_plain;
+    struct sheet sheet = {0};
+    sheet.day = some_day(station);
+    sheet.line = some_line(station);
     int samples = station->row == 1 ? 4 : 6;
-    int32_t intercept = line < 3 ? station->lines[line].intercept : 0;
+    int32_t intercept = sheet.line < 3 ? station->lines[sheet.line].intercept : 0;
     if (intercept < -1000 || intercept > 1000)
         intercept = 0;
-    int32_t numbers[48], copy[48];
-    memset(numbers, 0, sizeof numbers);
-    fill_sheet(numbers, samples, intercept, one_in(4) ? range(-40, 40) : range(-6, 6), true);
-    if (one_in(20)) {
-        int32_t *number = &numbers[range(0, 6 * samples - 1)];
+    fill_sheet(sheet.numbers, samples, intercept, one_in(4) ? range(-40, 40) : range(-6, 6), true);
+    for (int wrong = one_in(20) ? range(1, 3) : 0; wrong > 0; wrong--) {
+        int32_t *number = &sheet.numbers[range(0, 6 * samples - 1)];
         *number = one_in(2) ? edge() : -1;
     }
-    size_t length = one_in(40) ? (size_t)range(0, 48) : (size_t)(6 * samples);
-    memcpy(copy, numbers, sizeof numbers);
-    struct grain_outcome one = core.sheet(&by_core->station, day, line, length ? numbers : NULL, length);
-    struct grain_outcome other = plain.sheet(&by_plain->station, day, line, copy, length);
-    same("a sheet's answer", &one, &other, sizeof one);
-    same("a sheet's numbers", numbers, copy, sizeof numbers);
-    count(2, &one);
+    sheet.length = one_in(40) ? (size_t)range(0, 48) : (size_t)(6 * samples);
+    struct grain_outcome given = both_sheets(by_core, by_plain, sheet);
+    struct sheet moved = sheet;
+    move_samples(moved.numbers, moved.length);
+    if (memcmp(moved.numbers, sheet.numbers, sizeof sheet.numbers) == 0)
+        return;
+    struct grain_outcome then = both_sheets(&then_core, &then_plain, moved);
+    same("the answer in another order", &given, &then, sizeof given);
+    same("the station in another order", by_core, &then_core, sizeof then_core);
+    if (then.accepted)
+        moved_accepted++;
+    else
+        moved_refused[then.number]++;
 }
 
 static void compare_market(struct guarded_station *by_core, struct guarded_station *by_plain)
@@ -438,7 +480,17 @@ static void compare(void)
             fprintf(stderr, "bench: number %d was never met\n", i);
             exit(1);
         }
-    printf("%" PRIu64 " calls compared, no difference; every refusal met; accepted:", compared);
+    uint64_t moved = moved_accepted;
+    if (!moved_accepted)
+        fail("no sheet was accepted in another order");
+    for (int i = 0; i < 8; i++) {
+        moved += moved_refused[i];
+        /* 1 is an opening's */
+        if (i != 1 && !moved_refused[i])
+            fail("a number was never met by a sheet in another order");
+    }
+    printf("%" PRIu64 " calls compared, %" PRIu64 " of them sheets in another order, no difference; ", compared, moved);
+    printf("every refusal met; accepted:");
     for (int i = 0; i < 8; i++)
         printf("%s %s %" PRIu64, i ? "," : "", calls[i], accepted[i]);
     printf("\n");

@@ -96,7 +96,8 @@ struct grain_station {
 };
 
 /* A sheet's numbers: six for each sample, sample after sample, in this order, in hundredths. Each lies in 0 to 10000; a
- * third and an again pair that were not measured are GRAIN_NOT_MEASURED.
+ * third and an again pair that were not measured are GRAIN_NOT_MEASURED. The samples may stand in any order: the answer and
+ * the station after it are the same, and so is a refusal.
  *
  * A third is due where first and second differ by more than the pair limit, and must not be given elsewhere. The closest
  * two of a sample's results are its pair; its deviation is their sum plus twice the line's intercept minus twice the

@@ -288,7 +288,8 @@ impl Station {
     }
 
     /// Enters a reference sheet for a line: six numbers a sample (baseline, first, second, third,
-    /// again-first, again-second) in hundredths of a percent, -1 for not measured.
+    /// again-first, again-second) in hundredths of a percent, -1 for not measured. The samples may
+    /// stand in any order: the answer and the station after it are the same.
     ///
     /// ```
     /// use grain::{Phase, Refusal, Station};

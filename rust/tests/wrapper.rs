@@ -5,7 +5,7 @@ use std::path::Path;
 use std::process::Command;
 
 use grain::{
-    Asked, Basis, Chart, LAYOUT, Phase, Refusal, RestoreError, Scan, Station, WheatClass,
+    Asked, Basis, Chart, LAYOUT, Outcome, Phase, Refusal, RestoreError, Scan, Station, WheatClass,
     chart_text, chart_text_into,
 };
 
@@ -211,6 +211,61 @@ fn a_refused_call_changes_nothing() {
     assert_eq!(refused, Err(Refusal::BufferTooShort));
     assert_eq!((chart.last_week(), &chart), (7, &before));
     assert_eq!(short, [b'#'; 39]);
+}
+
+/// All orders of three.
+const ORDERS: [[usize; 3]; 6] = [
+    [0, 1, 2],
+    [0, 2, 1],
+    [1, 0, 2],
+    [1, 2, 0],
+    [2, 0, 1],
+    [2, 1, 0],
+];
+
+/// A wheat station that is open with a set of day 1.
+fn open_wheat() -> Station {
+    let mut station = Station::open(Station::WHEAT).unwrap();
+    let sheet = [1300, 1300, 1300, -1, -1, -1].repeat(6);
+    station.sheet(1, 0, &sheet).unwrap();
+    station
+}
+
+/// The answer and the station after a sheet of these samples and three more, which are the same in each
+/// order of the three.
+fn in_every_order(samples: [[i32; 6]; 3]) -> (Result<Outcome, Refusal>, Station) {
+    let usual = [1300, 1300, 1300, -1, -1, -1];
+    let entered = |order: [usize; 3]| {
+        let [one, two, three] = order.map(|place| samples[place]);
+        let numbers = [one, usual, two, usual, three, usual].concat();
+        let mut station = open_wheat();
+        (station.sheet(2, 0, &numbers), station)
+    };
+    for order in ORDERS {
+        assert_eq!(entered(order), entered(ORDERS[0]), "{order:?}");
+    }
+    entered(ORDERS[0])
+}
+
+/// The same samples in another order: the same outcome and station, or the same refusal.
+#[test]
+fn samples_in_any_order() {
+    let third = [1250, 1240, 1275, 1245, -1, -1];
+    let kept = [1400, 1451, 1451, -1, 1410, 1412];
+    let dropped = [1200, 1140, 1145, -1, 1150, 1155];
+    let (answer, station) = in_every_order([third, kept, dropped]);
+    let outcome = answer.unwrap();
+    assert_eq!((outcome.sum, outcome.count), (7, 10));
+    let newest = station.line(0).unwrap().past[0];
+    assert_eq!((newest.day, newest.sum, newest.count), (2, 7, 10));
+    // A third missing, a number out of range, an again pair that isn't due: the lowest number.
+    let no_third = [1250, 1240, 1275, -1, -1, -1];
+    let needless = [1300, 1300, 1300, -1, 1300, 1300];
+    for number in [10_001, i32::MIN, i32::MAX] {
+        let wrong = [1300, number, 1300, -1, -1, -1];
+        let refused = in_every_order([no_third, wrong, needless]);
+        assert_eq!(refused, (Err(Refusal::SheetNumber), open_wheat()));
+    }
 }
 
 /// A fault is refused by 8 whatever its code and whatever is asked for.

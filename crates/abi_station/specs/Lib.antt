@@ -1,1 +1,2 @@
 pub mod StationAnswers
+pub mod Laws

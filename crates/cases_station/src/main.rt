@@ -3,6 +3,7 @@ mod calls;
 mod gluten;
 mod lists;
 mod numbers;
+mod order;
 mod say;
 mod sheets;
 mod worked;
@@ -16,6 +17,8 @@ fn main() {
     numbers::sizes();
     numbers::sheet_numbers();
     numbers::lines(numbers::scans());
+    order::accepted();
+    order::refused();
     gluten::intercepts();
     gluten::derived();
     gluten::scans();

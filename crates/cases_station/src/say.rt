@@ -96,6 +96,15 @@ pub(crate) fn sheet(day: u32, line: usize, a: SheetAnswer) {
     }
 }
 
+// Whether the calls above it came to the same.
+pub(crate) fn orders(same: bool) {
+    if same {
+        text(b"  the answers are alike, and so are the 47 places after each\n");
+    } else {
+        text(b"  the answers or the 47 places after each are not alike\n");
+    }
+}
+
 pub(crate) fn repair(day: u32, a: RepairAnswer) {
     natural(b"  day ", day);
     match a {

@@ -7,6 +7,9 @@ pub(crate) const WHEAT_NUMBERS: usize = 6 * SAMPLE_NUMBERS;
 
 pub(crate) const CORN_NUMBERS: usize = 4 * SAMPLE_NUMBERS;
 
+// The numbers of a sample.
+pub(crate) type Sample = [i32; SAMPLE_NUMBERS];
+
 // Wheat: six samples with the same baseline and results.
 pub(crate) fn wheat(baseline: i32, result: i32) -> [i32; WHEAT_NUMBERS] {
     let mut numbers = [NOT_MEASURED; WHEAT_NUMBERS];
@@ -37,6 +40,19 @@ pub(crate) fn apart(result: i32, last: i32) -> [i32; WHEAT_NUMBERS] {
     while i < 5 {
         numbers[SAMPLE_NUMBERS * i + 4] = result;
         numbers[SAMPLE_NUMBERS * i + 5] = result;
+        i += 1;
+    }
+    numbers
+}
+
+// Wheat: three samples in this order, and three more at their baseline.
+pub(crate) fn three(a: Sample, b: Sample, c: Sample) -> [i32; WHEAT_NUMBERS] {
+    let mut numbers = wheat(1000, 1000);
+    let mut i = 0;
+    while i < SAMPLE_NUMBERS {
+        numbers[i] = a[i];
+        numbers[SAMPLE_NUMBERS + i] = b[i];
+        numbers[2 * SAMPLE_NUMBERS + i] = c[i];
         i += 1;
     }
     numbers

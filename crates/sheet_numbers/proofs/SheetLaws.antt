@@ -1,6 +1,6 @@
 -- The samples of a sheet at their places: each stands in its part of the numbers, and one step of a pass takes the next.
 use mathlib.Core.Path.{_≡_, refl, sym, ap, _∙_, subst⁻¹}
-use mathlib.Core.Bool.{Bool, false, _||_}
+use mathlib.Core.Bool.{Bool, false}
 use mathlib.Core.List.{List, [], _∷_}
 use Prim.Native.Nat.{ℕ, zero, suc, _+_, _*_, _-_, _≤_, _<_}
 use native.Mathlib.Omega.{arith}
@@ -8,7 +8,6 @@ use lib.IntN.{ℤ}
 use lib.ListN.{length, getD, drop, take}
 use Rattle.whole.specs.Lists.{any}
 use Rattle.whole.proofs.Fold.{fold, Going, going-next, going-done}
-use Rattle.whole.proofs.ListLaws.{orElse, or-step, any-fold}
 use Rattle.station_rules.specs.Sheets.{Sample, samplesOf, wrongNumber}
 use Rattle.whole.proofs.Elements.{none-passes}
 use Rattle.sheet_numbers.specs.Samples.{sampleFrom, Measured}
@@ -71,24 +70,10 @@ module _ (n : ℕ) (l : List ℤ) (size : length l ≡ 6 * n) {S : Type 0} (f : 
   pub pass-done : n ≤ i → s ≡ fold f s₀ (samplesOf l)
   pass-done k = going-done f s₀ (samplesOf l) i s (omega (arith, samples-length n l size)) going
 
--- ---- a pass that asks whether some sample passes a test
-
--- what was found among the first i samples
-abbrev pub Looking : ℕ → List ℤ → (Sample → Bool) → ℕ → Bool → Type 0
-Looking n l p i found = (i ≤ n) × Going (orElse p) false (samplesOf l) i found
-
-module _ (n : ℕ) (l : List ℤ) (size : length l ≡ 6 * n) (p : Sample → Bool) (i : ℕ) (found : Bool) (looking : Looking n l p i found) where
-  -- the flag joined, the sample's test, the sample at its place
-  pub look-next : {r t : Bool} {x : Sample} → i < n → r ≡ found || t → t ≡ p x → x ≡ getD (samplesOf l) i blank → Looking n l p (i + 1) r
-  look-next {r} k e f g = (omega arith, pass-step n l size (orElse p) false i found (looking .1) r k (or-step p found e f g))
-
-  pub look-done : n ≤ i → found ≡ any p (samplesOf l)
-  look-done k = pass-done n l size (orElse p) false i found (looking .1) k ∙ any-fold p (samplesOf l)
-
 -- ---- number 5 passed
 
 -- no sample of the sheet is wrong, so none at a place is
-any-at : (p : Sample → Bool) (l : List Sample) (i : ℕ) → any p l ≡ false → i < length l → p (getD l i blank) ≡ false
+pub any-at : (p : Sample → Bool) (l : List Sample) (i : ℕ) → any p l ≡ false → i < length l → p (getD l i blank) ≡ false
 any-at p [] i e h = absurd (omega arith)
 any-at p (x ∷ l) zero e h = none-passes p x l e .0
 any-at p (x ∷ l) (suc i) e h = any-at p l i (none-passes p x l e .1) (omega arith)
@@ -97,7 +82,4 @@ any-at p (x ∷ l) (suc i) e h = any-at p l i (none-passes p x l e .1) (omega ar
 pub sample-measured : (n i : ℕ) (l : List ℤ) {x : Sample} → i < n → Sheet n l → x ≡ getD (samplesOf l) i blank → Measured x
 sample-measured n i l k h e =
     subst⁻¹ Measured e
-    (measured (getD (samplesOf l) i blank) (any-at wrongNumber (samplesOf l) i (h .right) (omega (arith, samples-length n l (h .size)))))
-
-pub some-sample : (n : ℕ) (l : List ℤ) → Sheet n l → 0 < length (samplesOf l)
-some-sample n l h = omega (arith, samples-length n l (h .size))
+    (measured (getD (samplesOf l) i blank) (any-at wrongNumber (samplesOf l) i (h .right) (omega (arith, samples-length n l (h .sized .size)))))

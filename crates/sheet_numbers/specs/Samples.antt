@@ -1,5 +1,5 @@
 -- For the proofs of the code, no rule: a sample's six numbers as the code holds them and as the rules have them, and the ranges in which nothing wraps (docs/SPECIFICATION.md, "The reference sheet").
-use mathlib.Core.Bool.{Bool, _&&_, _||_}
+use mathlib.Core.Bool.{Bool, not, _&&_, _||_}
 use mathlib.Core.List.{List}
 use Prim.Native.Nat.{_≤_}
 use lib.IntN.{ℤ, pos}
@@ -42,6 +42,10 @@ abbrev pub inRanges : Sample → Bool
 inRanges s =
     isResult (s .baseline) && isResult (s .first) && isResult (s .second)
     && allowed (s .third) && allowed (s .againFirst) && allowed (s .againSecond)
+
+-- its again pair is measured
+abbrev pub hasAgain : Sample → Bool
+hasAgain s = not (absent (s .againFirst))
 
 -- what number 5 leaves of a sample: each number is −1 or one of 0..10000
 pub record Measured (s : Sample) : Type 0 where

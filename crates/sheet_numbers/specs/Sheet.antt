@@ -1,4 +1,4 @@
--- For the proofs of the code, no rule: what the passes after number 5 are handed (docs/SPECIFICATION.md, "The reference sheet").
+-- For the proofs of the code, no rule: what the passes over a sheet are handed (docs/SPECIFICATION.md, "The reference sheet").
 use mathlib.Core.Path.{_≡_}
 use mathlib.Core.Bool.{false}
 use mathlib.Core.List.{List, []}
@@ -13,9 +13,13 @@ use Rattle.sheet_numbers.specs.Samples.{sampleFrom}
 abbrev pub blank : Sample
 blank = sampleFrom []
 
--- so many samples, and no number of them wrong
-pub record Sheet (n : ℕ) (numbers : List ℤ) : Type 0 where
+-- the numbers of so many samples
+pub record Sized (n : ℕ) (numbers : List ℤ) : Type 0 where
   pub size : length numbers ≡ 6 * n
   pub some : 1 ≤ n
   pub most : n ≤ 1000
+
+-- no number of them wrong
+pub record Sheet (n : ℕ) (numbers : List ℤ) : Type 0 where
+  pub sized : Sized n numbers
   pub right : any wrongNumber (samplesOf numbers) ≡ false

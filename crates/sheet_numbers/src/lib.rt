@@ -8,7 +8,7 @@ ghost use mathlib.Core.Path.{_≡_};
 ghost use Prim.Native.Nat.{_*_, _<_};
 ghost use lib.ListN.{length, getD};
 ghost use Rattle.station_rules.specs.Sheets.{samplesOf, isResult, absent, wrongNumber};
-ghost use Rattle.sheet_numbers.specs.Samples.{sampleOf, sampleFrom, allowed, inRanges};
+ghost use Rattle.sheet_numbers.specs.Samples.{sampleOf, sampleFrom, allowed, inRanges, hasAgain};
 ghost use Rattle.sheet_numbers.specs.Sheet.{blank};
 
 // The largest number of a sheet.
@@ -93,4 +93,11 @@ pub fn wrong_number(s: SixNumbers) -> bool
         flags::opposite(in_ranges(s)),
         flags::unlike(is_absent(s.again_first), is_absent(s.again_second)),
     )
+}
+
+// Its again pair is measured.
+pub fn has_again(s: SixNumbers) -> bool
+    ensures { λ r. ⌜ r ≡ hasAgain (sampleOf s) ⌝ }
+{
+    flags::opposite(is_absent(s.again_first))
 }

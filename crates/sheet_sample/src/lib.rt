@@ -1,4 +1,4 @@
-// One sample of a sheet (docs/SPECIFICATION.md, "The reference sheet", rules 1 to 3): whether a third is due, its deviation, whether an again pair is due, and whether it is kept.
+// One sample of a sheet (docs/SPECIFICATION.md, "The reference sheet", rules 1 to 3): whether a third is due, its deviation, and what an again round makes of it.
 use sheet_numbers::SixNumbers;
 use station_rules::Limits;
 use whole::Int;
@@ -6,9 +6,10 @@ use whole::flags;
 ghost use mathlib.Core.Path.{_≡_};
 ghost use Prim.Native.Nat.{_≤_};
 ghost use Rattle.whole.specs.Parts.{Within};
-ghost use Rattle.station_rules.specs.Sheets.{thirdDue, wrongThird, usedPair, deviation, deviates, firstDeviation, againDue, wrongAgain, finalDeviation, kept};
+ghost use Rattle.station_rules.specs.Sheets.{thirdDue, wrongThird, usedPair, deviation, deviates, firstDeviation};
 ghost use Rattle.sheet_numbers.specs.Samples.{sampleOf, Measured, Fair};
 ghost use Rattle.sheet_pairs.specs.Pairs.{pairOf, Small};
+ghost use Rattle.sheet_sample.specs.Rounds.{Rejudged};
 
 // First and second differ by more than the pair limit.
 fn third_due(limits: Limits, s: SixNumbers) -> bool
@@ -64,65 +65,35 @@ pub fn first_deviation(limits: Limits, intercept: Int, s: SixNumbers) -> Int
 }
 
 // The magnitude is above twice the sample limit.
-fn is_deviating(limits: Limits, d: Int) -> bool
+pub fn is_deviating(limits: Limits, d: Int) -> bool
     requires { ⌜ (limits .sample ≤ 1000) × (Within 25000 25000 (d .z)) ⌝ }
     ensures { λ r. ⌜ r ≡ deviates limits (d .z) ⌝ }
 {
     2 * limits.sample < whole::size(d)
 }
 
-pub fn first_deviates(limits: Limits, intercept: Int, s: SixNumbers) -> bool
-    requires { ⌜ (Fair limits (intercept .z)) × (Measured (sampleOf s)) ⌝ }
-    ensures { λ r. ⌜ r ≡ deviates limits (firstDeviation limits (intercept .z) (sampleOf s)) ⌝ }
-{
-    is_deviating(limits, first_deviation(limits, intercept, s))
+// What an again round makes of a sample: number 7, and its deviation.
+pub struct Again {
+    pub wrong: bool,
+    pub deviation: Int,
 }
 
-// In a round of again pairs one is due for each deviating sample.
-fn again_due(limits: Limits, intercept: Int, round: bool, s: SixNumbers) -> bool
+// In an again round an again pair is due for each deviating sample, and its deviation is worked out anew from it.
+pub fn in_round(limits: Limits, intercept: Int, s: SixNumbers) -> Again
     requires { ⌜ (Fair limits (intercept .z)) × (Measured (sampleOf s)) ⌝ }
-    ensures { λ r. ⌜ r ≡ againDue limits (intercept .z) round (sampleOf s) ⌝ }
+    ensures { λ r. ⌜ Rejudged limits (intercept .z) (sampleOf s) r ⌝ }
 {
-    if !round {
-        return false;
+    let first = first_deviation(limits, intercept, s);
+    let there = sheet_numbers::has_again(s);
+    if !is_deviating(limits, first) {
+        return Again {
+            wrong: there,
+            deviation: first,
+        };
     }
-    first_deviates(limits, intercept, s)
-}
-
-// Number 7, of one sample.
-pub fn wrong_again(limits: Limits, intercept: Int, round: bool, s: SixNumbers) -> bool
-    requires { ⌜ (Fair limits (intercept .z)) × (Measured (sampleOf s)) ⌝ }
-    ensures { λ r. ⌜ r ≡ wrongAgain limits (intercept .z) round (sampleOf s) ⌝ }
-{
-    flags::unlike(
-        again_due(limits, intercept, round, s),
-        flags::opposite(sheet_numbers::is_absent(s.again_first)),
-    )
-}
-
-// Worked out anew from the again pair where one is due.
-pub fn final_deviation(limits: Limits, intercept: Int, round: bool, s: SixNumbers) -> Int
-    requires { ⌜ (Fair limits (intercept .z)) × (Measured (sampleOf s)) ⌝ }
-    ensures { λ r. ⌜ (r .z ≡ finalDeviation limits (intercept .z) round (sampleOf s)) × Within 25000 25000 (r .z) ⌝ }
-{
-    if again_due(limits, intercept, round, s) {
-        deviation_of(
-            intercept,
-            s.baseline,
-            whole::add(s.again_first, s.again_second),
-        )
-    } else {
-        first_deviation(limits, intercept, s)
+    let sum = whole::add(s.again_first, s.again_second);
+    Again {
+        wrong: flags::opposite(there),
+        deviation: deviation_of(intercept, s.baseline, sum),
     }
-}
-
-// A sample still deviating after its again pair is dropped.
-pub fn is_kept(limits: Limits, intercept: Int, round: bool, s: SixNumbers) -> bool
-    requires { ⌜ (Fair limits (intercept .z)) × (Measured (sampleOf s)) ⌝ }
-    ensures { λ r. ⌜ r ≡ kept limits (intercept .z) round (sampleOf s) ⌝ }
-{
-    if !again_due(limits, intercept, round, s) {
-        return true;
-    }
-    flags::opposite(is_deviating(limits, final_deviation(limits, intercept, round, s)))
 }

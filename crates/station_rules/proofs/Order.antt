@@ -1,4 +1,4 @@
--- The same samples in another order give the same checks, S and N, so the same result of a sheet call.
+-- The same samples in another order give the same checks, S and N, so a sheet call gives the same answer and leaves the same station and places.
 use mathlib.Core.Path.{_≡_, refl, sym, _∙_, ap, ap₂}
 use mathlib.Core.Bool.{Bool, true, false, not, _&&_, _||_, cond}
 use mathlib.Core.List.{List, [], _∷_, map, List·Permᴰ, List·Permᴰ·nil, List·Permᴰ·cons, List·Permᴰ·swap, List·Permᴰ·trans}
@@ -15,7 +15,10 @@ use Rattle.station_rules.specs.Lists.{keep}
 use Rattle.station_rules.specs.Rows.{limitsOf, samples}
 use Rattle.station_rules.specs.Sheets.{Sample, samplesOf, numbersOf, wrongNumber, wrongThird, wrongAgain, deviates, firstDeviation, finalDeviation, againRound, kept, keptSamples, setOf, sheetChecks}
 use Rattle.station_rules.specs.Judging.{sheetNumbers, sheetSet, sheetVerdict}
-use Rattle.station_rules.specs.Stations.{sheetOf, sheetStation, outcomeOf, valuesOf}
+use Rattle.station_rules.specs.Held.{Station}
+use Rattle.station_rules.specs.Stations.{SheetResult, sheetOf, sheetStation, outcomeOf, valuesOf}
+use Rattle.station_rules.specs.Places.{stationIn}
+use Rattle.station_rules.specs.InPlace.{sheetLeft, sheetPlaces, sheetIn}
 use Rattle.station_rules.specs.Laws.{OrderFree}
 use Rattle.station_rules.specs.declared.Limits.{Limits}
 
@@ -126,40 +129,68 @@ length-numbers : (ss : List Sample) → length (numbersOf ss) ≡ 6 * length ss
 length-numbers [] = refl
 length-numbers (s ∷ ss) = omega (arith, length-numbers ss)
 
-module _ (limits : Limits) (i : ℤ) {ss ts : List Sample} (d : List·Permᴰ ss ts) where
-  round-order : againRound limits i ss ≡ againRound limits i ts
-  unfolding againRound
-  round-order =
-      ap₂ _&&_
-      (sym (any-map (deviates limits) (firstDeviation limits i) ss) ∙ any-order (λ s. deviates limits (firstDeviation limits i s)) d
-      ∙ any-map (deviates limits) (firstDeviation limits i) ts)
-      (ap₂ (λ (x y : ℤ). ltZ (pos (2 * limits .range)) (x -ℤ y)) (largest-order (firstDeviation limits i) d) (smallest-order (firstDeviation limits i) d))
+-- what a sheet is judged by: how many numbers, and which samples
+module _ (l k : List ℤ) (same : length l ≡ length k) (d : List·Permᴰ (samplesOf l) (samplesOf k)) where
+  module _ (limits : Limits) (i : ℤ) where
+    round-order : againRound limits i (samplesOf l) ≡ againRound limits i (samplesOf k)
+    unfolding againRound
+    round-order =
+        ap₂ _&&_
+        (sym (any-map (deviates limits) (firstDeviation limits i) (samplesOf l)) ∙ any-order (λ s. deviates limits (firstDeviation limits i s)) d
+        ∙ any-map (deviates limits) (firstDeviation limits i) (samplesOf k))
+        (ap₂ (λ (x y : ℤ). ltZ (pos (2 * limits .range)) (x -ℤ y)) (largest-order (firstDeviation limits i) d) (smallest-order (firstDeviation limits i) d))
 
-  set-order : setOf limits i (numbersOf ss) ≡ setOf limits i (numbersOf ts)
-  unfolding setOf keptSamples
-  set-order =
-      rw (samples-back ss, samples-back ts, round-order)
-      (λ j. record {
-        sum = sum-order (finalDeviation limits i (againRound limits i ts)) (kept limits i (againRound limits i ts)) d j;
-        count = 2 * count-order (kept limits i (againRound limits i ts)) d j;
-      })
+    set-order : setOf limits i l ≡ setOf limits i k
+    unfolding setOf keptSamples
+    set-order =
+        rw round-order
+        (λ j. record {
+          sum = sum-order (finalDeviation limits i (againRound limits i (samplesOf k))) (kept limits i (againRound limits i (samplesOf k))) d j;
+          count = 2 * count-order (kept limits i (againRound limits i (samplesOf k))) d j;
+        })
 
-  numbers-order : length (numbersOf ss) ≡ length (numbersOf ts)
-  numbers-order = length-numbers ss ∙ ap (λ (n : ℕ). 6 * n) (length-order d) ∙ sym (length-numbers ts)
+    checks-order : (n : ℕ) → sheetChecks limits i n l ≡ sheetChecks limits i n k
+    unfolding sheetChecks
+    checks-order n =
+        rw round-order
+        (λ j.
+        record { answer = 4; applies = not (eqb (same j) (6 * n)) }
+        ∷ record { answer = 5; applies = any-order wrongNumber d j }
+        ∷ record { answer = 6; applies = any-order (wrongThird limits) d j }
+        ∷ record { answer = 7; applies = any-order (wrongAgain limits i (againRound limits i (samplesOf k))) d j }
+        ∷ [])
 
-  checks-order : (n : ℕ) → sheetChecks limits i n (numbersOf ss) ≡ sheetChecks limits i n (numbersOf ts)
-  unfolding sheetChecks
-  checks-order n =
-      rw (samples-back ss, samples-back ts, round-order)
-      (λ j.
-      record { answer = 4; applies = not (eqb (numbers-order j) (6 * n)) }
-      ∷ record { answer = 5; applies = any-order wrongNumber d j }
-      ∷ record { answer = 6; applies = any-order (wrongThird limits) d j }
-      ∷ record { answer = 7; applies = any-order (wrongAgain limits i (againRound limits i ts)) d j }
-      ∷ [])
+  sheet-order : (s : Station) (day line : ℕ) → sheetOf s day line l ≡ sheetOf s day line k
+  unfolding sheetOf sheetNumbers sheetStation sheetSet sheetVerdict outcomeOf
+  sheet-order s day line =
+      let v = valuesOf s line in
+      rw (checks-order (limitsOf (s .row) line) (v .intercept) (samples (s .row)), set-order (limitsOf (s .row) line) (v .intercept))
+
+  written-order : (words : List ℤ) (day line : ℕ) → sheetPlaces words day line l ≡ sheetPlaces words day line k
+  unfolding sheetPlaces sheetSet sheetVerdict
+  written-order words day line =
+      let s = stationIn words in
+      rw (set-order (limitsOf (s .row) line) (valuesOf s line .intercept))
+
+  places-order : (words : List ℤ) (day line : ℕ) → sheetIn words day line l ≡ sheetIn words day line k
+  unfolding sheetIn
+  places-order words day line =
+      ap₂ (λ (r : SheetResult) (written : List ℤ). record { answer = r .answer; places = sheetLeft (r .answer) words written })
+      (sheet-order (stationIn words) day line) (written-order words day line)
+
+-- ---- the samples moved
+
+module _ (ss ts : List Sample) (d : List·Permᴰ ss ts) where
+  as-many : length (numbersOf ss) ≡ length (numbersOf ts)
+  as-many = length-numbers ss ∙ ap (λ (n : ℕ). 6 * n) (length-order d) ∙ sym (length-numbers ts)
+
+  moved : List·Permᴰ (samplesOf (numbersOf ss)) (samplesOf (numbersOf ts))
+  moved = rw (samples-back ss, samples-back ts) d
 
 pub order-free : OrderFree
-unfolding sheetOf sheetNumbers sheetStation sheetSet sheetVerdict outcomeOf
-order-free s day line ss ts d =
-    let v = valuesOf s line in
-    rw (checks-order (limitsOf (s .row) line) (v .intercept) d (samples (s .row)), set-order (limitsOf (s .row) line) (v .intercept) d)
+order-free =
+    record {
+      station = λ s day line ss ts d. sheet-order (numbersOf ss) (numbersOf ts) (as-many ss ts d) (moved ss ts d) s day line;
+      places = λ words day line ss ts d. places-order (numbersOf ss) (numbersOf ts) (as-many ss ts d) (moved ss ts d) words day line;
+      numbers = λ words day line l k same d. places-order l k same d words day line;
+    }

@@ -4,16 +4,18 @@ use mathlib.Core.Bool.{true}
 use mathlib.Core.List.{List, List·Permᴰ}
 use Prim.Native.Nat.{ℕ, _*_, _≤_}
 use lib.Dec.{T}
+use lib.ListN.{length}
 use lib.IntN.{ℤ, pos, natAbs, _-ℤ_, _*ℤ_}
 use lib.Ieee.{Float}
 use Rattle.station_rules.specs.Rows.{rowExists}
-use Rattle.station_rules.specs.Sheets.{Sample, numbersOf}
+use Rattle.station_rules.specs.Sheets.{Sample, samplesOf, numbersOf}
 use Rattle.station_rules.specs.Lines.{Values, verdictOf, metEvery}
 use Rattle.station_rules.specs.Markets.{derivedIntercept, correctedValue, newestDay, tenths, certificateOf}
 use Rattle.station_rules.specs.Soundness.{sound}
 use Rattle.station_rules.specs.Stations.{freshStation, valuesOf, openOf, sheetOf, marketOf}
 use Rattle.station_rules.specs.Replies.{refusedBy, marketReply}
 use Rattle.station_rules.specs.Calls.{Call, stationAfterAll}
+use Rattle.station_rules.specs.InPlace.{sheetIn}
 use Rattle.station_rules.specs.declared.Limits.{Limits}
 use Rattle.station_rules.specs.declared.Set.{Set}
 use Rattle.station_rules.specs.declared.Scan.{Scan}
@@ -43,9 +45,17 @@ abbrev pub StandardEqual : Type 0
 StandardEqual = (row : ℕ) (v : Values) (line : ℕ) (scan : Scan) (asked : Asked)
     → certificateOf row v line scan asked Basis.Standard .converted ≡ certificateOf row v line scan asked Basis.Standard .figure
 
--- given to one station on one day and line, the same samples in another order get the same outcome and station, or the same refusal
-abbrev pub OrderFree : Type 0
-OrderFree = (s : Station) (day line : ℕ) (ss ts : List Sample) → List·Permᴰ ss ts → sheetOf s day line (numbersOf ss) ≡ sheetOf s day line (numbersOf ts)
+-- given to one station on one day and line, the same samples in another order get the same outcome and station, or the same refusal: any samples,
+-- however many, and any station
+pub record OrderFree : Type 0 where
+  pub station : (s : Station) (day line : ℕ) (ss ts : List Sample) → List·Permᴰ ss ts
+      → sheetOf s day line (numbersOf ss) ≡ sheetOf s day line (numbersOf ts)
+  -- on a station in its caller's places: the answer and every place
+  pub places : (words : List ℤ) (day line : ℕ) (ss ts : List Sample) → List·Permᴰ ss ts
+      → sheetIn words day line (numbersOf ss) ≡ sheetIn words day line (numbersOf ts)
+  -- numbers that end within a sample too: as many of them, and the whole samples in another order
+  pub numbers : (words : List ℤ) (day line : ℕ) (l k : List ℤ) → length l ≡ length k → List·Permᴰ (samplesOf l) (samplesOf k)
+      → sheetIn words day line l ≡ sheetIn words day line k
 
 -- ---- wet gluten
 

@@ -12,7 +12,7 @@ use borrow.Author.Tests.{leb-true, leb-false}
 use Rattle.whole.specs.Parts.{up, down, Within}
 use Rattle.whole.specs.Lists.{differ, any, all, total, largerOf, smallerOf, largest, smallest}
 use Rattle.whole.proofs.PartLaws.{sum, diff, either}
-use Rattle.whole.proofs.Fold.{fold, Going, going-start, going-next}
+use Rattle.whole.proofs.Fold.{fold}
 use Rattle.whole.proofs.Tests.{and-true, or-false, and-assoc, or-assoc}
 
 -- ---- a test, taken apart
@@ -246,13 +246,6 @@ module _ {A : Type 0} (f : A → ℤ) where
 
   pub smallest-fold : (d : A) (l : List A) → 0 < length l → fold smallerBy (f (getD l 0 d)) l ≡ smallest (map f l)
   smallest-fold d l h = ext-fold smallerOf smaller-comm smaller-swaps smaller-same smallest (λ x. refl) (λ x y l. refl) f d l h
-
-  -- a loop that begins with the first of the list may go on with the second
-  pub largest-first : (d : A) (l : List A) → 0 < length l → Going largerBy (f (getD l 0 d)) l 1 (f (getD l 0 d))
-  largest-first d l h = going-next largerBy _ l d 0 _ _ h (sym (larger-same _)) (going-start largerBy _ l)
-
-  pub smallest-first : (d : A) (l : List A) → 0 < length l → Going smallerBy (f (getD l 0 d)) l 1 (f (getD l 0 d))
-  smallest-first d l h = going-next smallerBy _ l d 0 _ _ h (sym (smaller-same _)) (going-start smallerBy _ l)
 
 -- ---- an element within a list, whatever stands for one past its end
 

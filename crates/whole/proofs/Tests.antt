@@ -48,6 +48,10 @@ pub or-false : (b : Bool) → b || false ≡ b
 or-false true = refl
 or-false false = refl
 
+pub or-true : (b : Bool) → b || true ≡ true
+or-true true = refl
+or-true false = refl
+
 pub and-assoc : (a b c : Bool) → (a && b) && c ≡ a && (b && c)
 and-assoc true b c = refl
 and-assoc false b c = refl

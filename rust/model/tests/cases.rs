@@ -6,8 +6,8 @@ use grain_model::sheet::Sample;
 use grain_model::station::BLANK;
 use grain_model::text::program;
 use grain_model::{
-    Asked, Basis, Book, Certificate, Chart, Line, PastSet, Phase, Rules, Scan, Station, Test,
-    Verdict, WheatClass, reading,
+    Asked, Basis, Book, Certificate, Chart, Judged, Line, PastSet, Phase, Rules, Scan, Station,
+    Test, Verdict, WheatClass, reading,
 };
 
 const NAMES: &str = "week sample original monitor\n";
@@ -149,6 +149,66 @@ fn again_pairs() {
         all.map(|sums| (sums.s, sums.n, sums.dropped)),
         Ok((0, 0, 6))
     );
+}
+
+/// All orders of these samples.
+fn orders(samples: &[[i32; 6]]) -> Vec<Vec<[i32; 6]>> {
+    let Some((first, others)) = samples.split_first() else {
+        return vec![vec![]];
+    };
+    let mut all = Vec::new();
+    for order in orders(others) {
+        for place in 0..=order.len() {
+            let mut order = order.clone();
+            order.insert(place, *first);
+            all.push(order);
+        }
+    }
+    all
+}
+
+/// The answer and the station after a sheet of these samples, which are the same in all 720 orders.
+fn in_every_order(station: Station, samples: [[i32; 6]; 6]) -> (Result<Judged, u8>, Station) {
+    let rules = Rules::in_force();
+    let entered = |order: &[[i32; 6]]| {
+        let mut after = station;
+        (after.sheet(&rules, 20, 0, &order.concat()), after)
+    };
+    let orders = orders(&samples);
+    assert_eq!(orders.len(), 720);
+    for order in &orders {
+        assert_eq!(entered(order), entered(&samples), "{order:?}");
+    }
+    entered(&samples)
+}
+
+/// The same samples in another order: the same outcome and station, or the same refusal.
+#[test]
+fn orders_of_samples() {
+    let open = station(Phase::Open, 0, 20, &[(19, 20), (18, -10)]);
+    let third = [1250, 1240, 1275, 1245, -1, -1];
+    let kept = [1400, 1451, 1451, -1, 1410, 1412];
+    let dropped = [1200, 1140, 1145, -1, 1150, 1155];
+    let (answer, after) =
+        in_every_order(open, [third, kept, dropped, twice(30), twice(-7), twice(0)]);
+    let judged = answer.unwrap();
+    assert_eq!((judged.outcome.s, judged.outcome.n), (30, 10));
+    assert_eq!((judged.again, judged.dropped), (2, 1));
+    assert_eq!(after.lines[0].sets()[0].s, 30);
+    // The lowest number over the whole sheet, wherever its sample stands.
+    let mut no_third = third;
+    no_third[3] = -1;
+    let needless = again(0, 0);
+    for extreme in [-2, 10_001, i32::MIN, i32::MAX] {
+        let mut number = twice(0);
+        number[2] = extreme;
+        let wrong = [no_third, number, needless, kept, dropped, twice(0)];
+        assert_eq!(in_every_order(open, wrong), (Err(5), open));
+    }
+    let wrong = [no_third, needless, kept, dropped, twice(30), twice(-7)];
+    assert_eq!(in_every_order(open, wrong), (Err(6), open));
+    let wrong = [third, needless, kept, dropped, twice(30), twice(-7)];
+    assert_eq!(in_every_order(open, wrong), (Err(7), open));
 }
 
 #[test]

@@ -199,7 +199,7 @@ fn sheet(trial: &mut Trial, subject: &mut Subject, lean: Lean) -> Result<(), Dif
     if writer.rng.chance(12) {
         damage(writer.rng, &mut numbers);
     }
-    let answer = trial.sheet(subject, day, line, &numbers)?;
+    let answer = trial.sheet_in_orders(subject, day, line, &numbers)?;
     if let Ok(judged) = answer {
         count_sheet(trial, held, &limits, i64::from(day), &judged);
         count_samples(trial, &limits, held.intercept, &numbers);
@@ -424,8 +424,11 @@ impl Writer<'_> {
     }
 }
 
-/// One thing wrong with a sheet, for the numbers 4 to 7; sometimes two.
+/// One thing wrong with a sheet, for the numbers 4 to 7; sometimes two, or several samples wrong.
 fn damage(rng: &mut Rng, numbers: &mut Vec<i32>) {
+    if rng.chance(20) {
+        return wrong_samples(rng, numbers);
+    }
     for _ in 0..rng.pick(&[1, 1, 1, 2]) {
         let place = rng.below(numbers.len().max(1));
         let sample = place / 6 * 6;
@@ -436,16 +439,8 @@ fn damage(rng: &mut Rng, numbers: &mut Vec<i32>) {
             3 | 4 if place < numbers.len() => {
                 numbers[place] = rng.pick(&[-1, -2, 10_000, 10_001, i32::MIN, i32::MAX]);
             }
-            // A third too many or too few.
-            5 if sample + 6 <= numbers.len() => {
-                numbers[sample + 3] = if numbers[sample + 3] == -1 { 1300 } else { -1 };
-            }
-            // An again pair too many or too few, or half of one.
-            6 | 7 if sample + 6 <= numbers.len() => {
-                let pair =
-                    rng.pick(&[[-1, -1], [1300, 1310], [1300, 1310], [-1, 1300], [1300, -1]]);
-                numbers[sample + 4..sample + 6].copy_from_slice(&pair);
-            }
+            5 if sample + 6 <= numbers.len() => wrong_third(&mut numbers[sample..]),
+            6 | 7 if sample + 6 <= numbers.len() => wrong_again(rng, &mut numbers[sample..]),
             // First and second drawn apart.
             _ if sample + 6 <= numbers.len() => {
                 let apart = rng.pick(&[30, 31, -31, 40, 41, 90, 91]);
@@ -454,6 +449,32 @@ fn damage(rng: &mut Rng, numbers: &mut Vec<i32>) {
             _ => {}
         }
     }
+}
+
+/// Two or three samples of a whole sheet wrong, often each in another way: the numbers 5 to 7 beside
+/// each other.
+fn wrong_samples(rng: &mut Rng, numbers: &mut [i32]) {
+    let samples = numbers.len() / 6;
+    let turn = rng.below(samples);
+    for one in 0..rng.pick(&[2, 3]) {
+        let sample = &mut numbers[(turn + one) % samples * 6..];
+        match rng.below(3) {
+            0 => sample[rng.below(6)] = rng.pick(&[-2, 10_001, i32::MIN, i32::MAX]),
+            1 => wrong_third(sample),
+            _ => wrong_again(rng, sample),
+        }
+    }
+}
+
+/// A third too many or too few.
+fn wrong_third(sample: &mut [i32]) {
+    sample[3] = if sample[3] == -1 { 1300 } else { -1 };
+}
+
+/// An again pair too many or too few, or half of one.
+fn wrong_again(rng: &mut Rng, sample: &mut [i32]) {
+    let pair = rng.pick(&[[-1, -1], [1300, 1310], [1300, 1310], [-1, 1300], [1300, -1]]);
+    sample[4..6].copy_from_slice(&pair);
 }
 
 /// The branches of an accepted sheet on this line.

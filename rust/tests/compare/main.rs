@@ -12,6 +12,7 @@ mod lent;
 mod lists;
 mod markets;
 mod met;
+mod orders;
 mod readings;
 mod rng;
 mod stations;
@@ -28,6 +29,8 @@ use stations::Trial;
 /// How much is compared.
 struct Extent {
     station_lists: usize,
+    /// Each sheet also with its samples in another order.
+    orders: bool,
     chart_lists: usize,
     texts: usize,
     long_texts: usize,
@@ -38,6 +41,7 @@ struct Extent {
 
 const FULL: Extent = Extent {
     station_lists: 8_000,
+    orders: true,
     chart_lists: 5_000,
     texts: 30_000,
     long_texts: 300,
@@ -49,6 +53,7 @@ const FULL: Extent = Extent {
 /// Enough to notice any one number off by one.
 const SMALL: Extent = Extent {
     station_lists: 600,
+    orders: false,
     chart_lists: 300,
     texts: 400,
     long_texts: 2,
@@ -64,6 +69,7 @@ fn say(line: &str) {
 
 /// All comparisons.
 fn compare(trial: &mut Trial, extent: &Extent) -> Result<(), Difference> {
+    trial.orders = extent.orders;
     lists::openings(trial)?;
     readings::sample(trial, extent.random_floats, extent.float_step)?;
     for _ in 0..extent.station_lists {

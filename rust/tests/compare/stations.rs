@@ -9,11 +9,13 @@ use crate::lent::{Difference, Lent, same};
 use crate::met::Met;
 use crate::rng::Rng;
 
-/// What all comparisons share: the model's numbers, the random generator and the counts.
+/// What all comparisons share: the model's numbers, the random generator, the counts, and whether
+/// sheets are also given in another order.
 pub struct Trial {
     pub rules: Rules,
     pub rng: Rng,
     pub met: Met,
+    pub orders: bool,
 }
 
 /// A station under comparison. One opened here is also kept as a book.
@@ -195,6 +197,7 @@ impl Trial {
             rules,
             rng: Rng::new(seed),
             met: Met::new(),
+            orders: false,
         }
     }
 

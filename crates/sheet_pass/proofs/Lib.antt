@@ -1,0 +1,2 @@
+pub mod BoundLaws
+pub mod PassLaws
