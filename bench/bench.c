@@ -109,6 +109,16 @@ static void fill_sheet(int32_t *numbers, int samples, int32_t intercept, int32_t
     }
 }
 
+/* Makes all samples of a sheet deviate, by their again pairs too: none is kept. */
+static void drop_samples(int32_t *numbers, int samples, int32_t intercept)
+{
+    for (int i = 0; i < samples; i++) {
+        int32_t *n = numbers + 6 * i;
+        n[1] = n[2] = n[4] = n[5] = n[0] - intercept + (i ? 200 : -200);
+        n[3] = -1;
+    }
+}
+
 static size_t put(uint8_t *text, size_t at, const char *line)
 {
     size_t length = strlen(line);
@@ -136,7 +146,8 @@ static size_t fill_text(uint8_t *text, size_t least)
 
 enum { CALLS = 200000, TEXTS = 20000, GUARD = 16 };
 
-static uint64_t gluten_certified, compared, accepted[8], refused[25], moved_accepted, moved_refused[8];
+static uint64_t gluten_certified, compared, accepted[8], refused[27], moved_accepted, moved_refused[8];
+static uint64_t adjusted, shut_nothing_kept, shut_at_bound; /* lines, by sheets */
 
 /* Counts an answer; its first two words are accepted and number. */
 static void count(int call, const void *answer)
@@ -259,6 +270,19 @@ static struct grain_outcome both_sheets(struct guarded_station *by_core, struct 
     return one;
 }
 
+/* Counts what a sheet made of its line; the outcome says check due for an adjusted and for a shut one. */
+static void count_phase(const struct grain_station *station, uint64_t line, const struct grain_outcome *outcome)
+{
+    if (!outcome->accepted || outcome->phase != GRAIN_CHECK_DUE)
+        return;
+    int32_t phase = station->lines[line].phase;
+    if (phase != (outcome->change ? GRAIN_ADJUSTED : GRAIN_SHUT))
+        fail("a line is adjusted without a change or shut with one");
+    adjusted += phase == GRAIN_ADJUSTED;
+    shut_nothing_kept += phase == GRAIN_SHUT && outcome->count == 0;
+    shut_at_bound += phase == GRAIN_SHUT && outcome->count > 0;
+}
+
 /* A sheet; then the same samples in another order on the stations as they were: the core must answer and leave the same, and
  * both_sheets holds plain C to the core. */
 static void compare_sheet(struct guarded_station *by_core, struct guarded_station *by_plain)
@@ -273,12 +297,15 @@ static void compare_sheet(struct guarded_station *by_core, struct guarded_statio
     if (intercept < -1000 || intercept > 1000)
         intercept = 0;
     fill_sheet(sheet.numbers, samples, intercept, one_in(4) ? range(-40, 40) : range(-6, 6), true);
+    if (one_in(40))
+        drop_samples(sheet.numbers, samples, intercept);
     for (int wrong = one_in(20) ? range(1, 3) : 0; wrong > 0; wrong--) {
         int32_t *number = &sheet.numbers[range(0, 6 * samples - 1)];
         *number = one_in(2) ? edge() : -1;
     }
     sheet.length = one_in(40) ? (size_t)range(0, 48) : (size_t)(6 * samples);
     struct grain_outcome given = both_sheets(by_core, by_plain, sheet);
+    count_phase(station, sheet.line, &given);
     struct sheet moved = sheet;
     move_samples(moved.numbers, moved.length);
     if (memcmp(moved.numbers, sheet.numbers, sizeof sheet.numbers) == 0)
@@ -475,7 +502,9 @@ static void compare(void)
         }
     if (!gluten_certified)
         fail("no gluten was certified");
-    for (int i = 0; i < 25; i++)
+    if (!adjusted || !shut_nothing_kept || !shut_at_bound)
+        fail("no line was adjusted, or none was shut in one of the two ways");
+    for (int i = 0; i < 27; i++)
         if (!refused[i]) {
             fprintf(stderr, "bench: number %d was never met\n", i);
             exit(1);

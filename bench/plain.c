@@ -31,7 +31,7 @@ static bool sound_line(const struct grain_line *line, int32_t samples, int32_t l
         return false;
     if (line->phase == GRAIN_OPEN ? line->held < 1 || line->held > 4 : line->held != 0)
         return false;
-    if (line->phase < GRAIN_NEW || line->phase > GRAIN_CHECK_DUE)
+    if (line->phase < GRAIN_NEW || line->phase > GRAIN_SHUT)
         return false;
     for (int i = 0; i < line->held; i++) {
         const struct grain_past_set *set = &line->past[i];
@@ -118,6 +118,11 @@ static bool has_asked(int32_t row, uint32_t scan_kind, bool gluten)
     return scan_kind == GRAIN_WHEAT_GLUTEN || (!gluten && scan_kind == GRAIN_WHEAT);
 }
 
+static uint32_t not_open(const struct grain_line *line)
+{
+    return line->phase == GRAIN_NEW ? 12 : line->phase == GRAIN_ADJUSTED ? 25 : 26;
+}
+
 /* Times 3.029, halves away from zero. */
 static int32_t gluten_intercept(int32_t intercept)
 {
@@ -165,7 +170,7 @@ struct grain_certificate plain_market(struct grain_station *station, uint32_t da
     if (value < 0 || value > 10000)
         return no_certificate(11);
     if (held->phase != GRAIN_OPEN)
-        return no_certificate(12);
+        return no_certificate(not_open(held));
     if ((int32_t)day - held->past[0].day > 7)
         return no_certificate(13);
     int32_t above = value * (10000 - basis), below = 10000 - standard;
@@ -266,12 +271,17 @@ static void add(struct grain_past_set *sum, const struct grain_past_set *set)
     sum->count += set->count;
 }
 
+static bool check_due(const struct grain_line *line)
+{
+    return line->phase == GRAIN_ADJUSTED || line->phase == GRAIN_SHUT;
+}
+
 /* Whether every average due is met; *sum becomes the sums of the last test made. */
 static bool meets(const struct grain_line *line, const struct limits *limits, struct grain_past_set *sum)
 {
     if (sum->count == 0)
         return false;
-    if (line->phase == GRAIN_CHECK_DUE)
+    if (check_due(line))
         return within(sum, limits->check);
     int valid = 0;
     while (valid < line->held && sum->day - line->past[valid].day <= 14)
@@ -302,7 +312,8 @@ static bool meets(const struct grain_line *line, const struct limits *limits, st
     return within(sum, limits->five);
 }
 
-/* The change by an average rounded with halves away from zero, 0 where the intercept would leave its bounds. */
+/* The change by an average rounded with halves away from zero, 0 where nothing was kept or the intercept would leave its
+ * bounds. An average that exceeds its limit is never rounded to 0. */
 static int32_t change_by(const struct grain_past_set *sum, int32_t intercept)
 {
     if (sum->count == 0)
@@ -335,7 +346,7 @@ struct grain_outcome plain_sheet(struct grain_station *restrict station, uint32_
     struct grain_past_set sum = set;
     int32_t change = 0;
     if (meets(held, limits, &sum)) {
-        if (held->phase == GRAIN_CHECK_DUE)
+        if (check_due(held))
             memset(held->past, 0, sizeof held->past);
         else
             memmove(held->past + 1, held->past, 3 * sizeof held->past[0]);
@@ -346,7 +357,7 @@ struct grain_outcome plain_sheet(struct grain_station *restrict station, uint32_
     } else {
         change = change_by(&sum, held->intercept);
         held->intercept += change;
-        held->phase = GRAIN_CHECK_DUE;
+        held->phase = change ? GRAIN_ADJUSTED : GRAIN_SHUT;
         held->held = 0;
         memset(held->past, 0, sizeof held->past);
     }
@@ -355,7 +366,7 @@ struct grain_outcome plain_sheet(struct grain_station *restrict station, uint32_
         .accepted = 1,
         .sum = set.sum,
         .count = (uint32_t)set.count,
-        .phase = (uint32_t)held->phase,
+        .phase = held->phase == GRAIN_OPEN ? GRAIN_OPEN : GRAIN_CHECK_DUE,
         .change = change,
     };
 }

@@ -1,4 +1,5 @@
-/* A wheat station's first days, wet gluten too, a chart set and a chart text. Prints what the calls answer. */
+/* A wheat station's first days, wet gluten too, a chart set and a chart text. Prints what the calls answer. A line that
+ * isn't open says why: it was adjusted (day 1), it is new (day 4), it was shut (day 5). */
 #include "grain.h"
 
 #include <inttypes.h>
@@ -29,9 +30,8 @@ static void sheet(struct grain_station *station, uint32_t day, int32_t result, i
         refused("sheet", o.number);
         return;
     }
-    static const char *const phases[] = {"new", "open", "check due"};
     printf("sheet: S %" PRId32 ", N %" PRIu32 ", intercept changed by %" PRId32 ", %s\n", o.sum, o.count, o.change,
-           phases[o.phase]);
+           o.phase == GRAIN_OPEN ? "open" : "check due");
 }
 
 static void market(struct grain_station *station, uint32_t day, float percent)
@@ -69,7 +69,7 @@ int main(void)
     if (!grain_open(&station, GRAIN_ROW_WHEAT).accepted)
         return 1;
     sheet(&station, 1, 1010, 1011); /* 10.17 hundredths high: adjusted by 10 */
-    market(&station, 1, 13.54f);    /* the check is due */
+    market(&station, 1, 13.54f);    /* the check is due after an adjustment */
     sheet(&station, 2, 1010, 1011); /* the check is met */
     market(&station, 3, 13.54f);
     gluten(&station, 3, 13.54f, 34.12f, GRAIN_GLUTEN_HARD_RED_WINTER);
@@ -77,7 +77,9 @@ int main(void)
     sheet(&station, 2, 1010, 1011); /* a day before the last */
     if (!grain_repair(&station, 4).accepted)
         return 1;
-    market(&station, 4, 13.54f); /* new again */
+    market(&station, 4, 13.54f);    /* new again */
+    sheet(&station, 5, 2010, 2011); /* the intercept would leave -1000 to 1000: shut */
+    market(&station, 5, 13.54f);    /* the check is due after shutting */
 
     struct grain_chart chart;
     const int32_t pairs[10] = {1315, 1307, 1018, 1054, 1447, 1479, 1256, 1223, 1857, 1877};

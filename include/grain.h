@@ -8,9 +8,10 @@
  * looked at.
  *
  * Answers. Every call answers a struct by value. `accepted` is 1, or 0 for a refused call; `number` is then the reason
- * (GRAIN_REFUSED_...). The first that applies is answered, in the order of the numbers, 23 and 24 standing between 8 and 9.
- * All other fields are 0 where a call is refused, except a text's `line`. A refused call writes nothing at all: no field of
- * the state, no byte of a buffer. There is one exception: a refused opening leaves a fresh state of row 0, every field 0.
+ * (GRAIN_REFUSED_...). The first that applies is answered, in the order of the numbers, 23 and 24 standing between 8 and 9,
+ * 25 and 26 in the place of 12, between 11 and 13. All other fields are 0 where a call is refused, except a text's `line`.
+ * A refused call writes nothing at all: no field of the state, no byte of a buffer. There is one exception: a refused
+ * opening leaves a fresh state of row 0, every field 0.
  *
  * Units. "Hundredths" are whole hundredths of a percent (1354 is 13.54 percent), "tenths" whole tenths of a percent. Days
  * are whole numbers from 0 to 99999 that never go back, weeks from 1 to 9999 that rise, both counted as the laboratory
@@ -28,10 +29,17 @@
 #include <stddef.h>
 #include <stdint.h>
 
-#define GRAIN_VERSION "0.3.0"
+#define GRAIN_VERSION "0.4.0"
 
-/* Changes whenever struct grain_station or struct grain_chart does: a stored state of another layout is not to be used. */
-#define GRAIN_LAYOUT 1
+/* Changes whenever struct grain_station or struct grain_chart does, or what their fields mean: a stored state of another
+ * layout is not to be used before it is carried over.
+ *
+ * From layout 1: sizes and places are the same, and charts are as they were. Of a line's phase 0 and 1 mean what they did.
+ * 2 stood for every line whose check is due and now stands for an adjusted one: where the line was shut, that is where its
+ * newest accepted sheet gave change 0, write GRAIN_SHUT. Where that is not known, leave 2: sheets and certificates are the
+ * same either way, only 25 is told in place of 26. Layout 1 has no phase 3: a station with it is damaged, and its line
+ * was not shut. */
+#define GRAIN_LAYOUT 2
 
 #ifdef __cplusplus
 #define GRAIN_STATIC_ASSERT(test, text) static_assert(test, text)
@@ -69,10 +77,16 @@ extern "C" {
 #define GRAIN_LINE_OIL 1
 #define GRAIN_LINE_STARCH 2
 
-/* Phases of a line. Only an open line tests market grain. */
-#define GRAIN_NEW 0       /* no accepted sheet yet, or repaired since */
-#define GRAIN_OPEN 1      /* the newest sheet met every average due */
-#define GRAIN_CHECK_DUE 2 /* adjusted or shut: the next sheet is the check */
+/* Phases of a line in a station. Only an open line tests market grain. A repair leaves an adjusted line adjusted and a shut
+ * one shut. */
+#define GRAIN_NEW 0      /* no accepted sheet yet, or open and then repaired */
+#define GRAIN_OPEN 1     /* the newest sheet met every average due */
+#define GRAIN_ADJUSTED 2 /* the newest sheet changed the intercept: the next sheet is the check */
+#define GRAIN_SHUT 3     /* the newest sheet kept no sample, or would have moved the intercept out of -1000 to 1000, and
+                            changed nothing: the next sheet is the check */
+
+/* Phases of a sheet's outcome: GRAIN_OPEN, or this. */
+#define GRAIN_CHECK_DUE 2 /* adjusted or shut; the line's phase in the station tells which */
 
 /* The result of an accepted reference sheet. Its average deviation is sum / count hundredths. */
 struct grain_past_set {
@@ -84,7 +98,7 @@ struct grain_past_set {
 /* One constituent of the grain. */
 struct grain_line {
     int32_t intercept;             /* added to every reading, hundredths, -1000 to 1000 */
-    int32_t phase;                 /* GRAIN_NEW, GRAIN_OPEN or GRAIN_CHECK_DUE */
+    int32_t phase;                 /* GRAIN_NEW, GRAIN_OPEN, GRAIN_ADJUSTED or GRAIN_SHUT */
     int32_t held;                  /* how many of past are in use: 1 to 4 on an open line, else 0 */
     struct grain_past_set past[4]; /* the newest sheets that met, newest first */
 };
@@ -188,8 +202,8 @@ struct grain_outcome {
     uint32_t accepted, number;
     int32_t sum;    /* S: the sum of the kept samples' deviations, hundredths */
     uint32_t count; /* N: twice the number of samples kept; 0 if none was */
-    uint32_t phase; /* the line's phase after the sheet */
-    int32_t change; /* of the line's intercept, hundredths, 0 if none */
+    uint32_t phase; /* of the line after the sheet: GRAIN_OPEN, or GRAIN_CHECK_DUE whether adjusted or shut */
+    int32_t change; /* of the line's intercept, hundredths, 0 if none; check due with 0 says that the line is shut */
 };
 
 struct grain_certificate {
@@ -236,7 +250,7 @@ struct grain_written {
 #define GRAIN_REFUSED_FLOAT 9
 #define GRAIN_REFUSED_BASIS 10
 #define GRAIN_REFUSED_CORRECTED 11
-#define GRAIN_REFUSED_NOT_OPEN 12
+#define GRAIN_REFUSED_NEW_LINE 12
 #define GRAIN_REFUSED_SET_TOO_OLD 13
 #define GRAIN_REFUSED_AT_BASIS 14
 #define GRAIN_REFUSED_TEXT_TOO_LONG 15
@@ -249,6 +263,8 @@ struct grain_written {
 #define GRAIN_REFUSED_BUFFER 22
 #define GRAIN_REFUSED_GLUTEN_CLASS 23
 #define GRAIN_REFUSED_GLUTEN_BASIS 24
+#define GRAIN_REFUSED_ADJUSTED_LINE 25
+#define GRAIN_REFUSED_SHUT_LINE 26
 
 /* What is wrong, in a technician's words. */
 static inline const char *grain_message(uint32_t number)
@@ -280,8 +296,9 @@ static inline const char *grain_message(uint32_t number)
         return "the moisture basis lies outside 0.00 to 50.00 percent or is of no known kind";
     case GRAIN_REFUSED_CORRECTED:
         return "the reading with its intercept lies outside 0.00 to 100.00 percent";
-    case GRAIN_REFUSED_NOT_OPEN:
-        return "the line is not open; enter a reference sheet that meets its averages first";
+    case GRAIN_REFUSED_NEW_LINE:
+        return "the line is new: no reference sheet of it was accepted since the station was opened or repaired; enter one "
+               "that meets its averages first";
     case GRAIN_REFUSED_SET_TOO_OLD:
         return "the line's newest reference sheet is more than 7 days old; enter a new one first";
     case GRAIN_REFUSED_AT_BASIS:
@@ -307,6 +324,11 @@ static inline const char *grain_message(uint32_t number)
         return "wet gluten is reported for Hard Red Winter and Hard Red Spring wheat only";
     case GRAIN_REFUSED_GLUTEN_BASIS:
         return "wet gluten is reported at 14.0 percent moisture only: ask for the standard basis";
+    case GRAIN_REFUSED_ADJUSTED_LINE:
+        return "the line was adjusted and its check is due: enter a reference sheet that meets the check limit first";
+    case GRAIN_REFUSED_SHUT_LINE:
+        return "the line was shut, as its sheet kept no sample or called for an intercept beyond 10.00 percent, and its "
+               "check is due: enter a reference sheet that meets the check limit first";
     default:
         return "there is no refusal with this number";
     }
@@ -324,8 +346,8 @@ GRAIN_NODISCARD struct grain_answer grain_open(struct grain_station *station, ui
 GRAIN_NODISCARD struct grain_outcome grain_sheet(struct grain_station *GRAIN_RESTRICT station, uint32_t day, uint64_t line,
                                                  const int32_t *GRAIN_RESTRICT numbers, size_t numbers_len);
 
-/* Enters a repair or a new slope: every line's past sheets go, open lines become new, a check that is due stays due,
- * intercepts stay. Refused by 0, 2. */
+/* Enters a repair or a new slope: every line's past sheets go, open lines become new, a check that is due stays due (an
+ * adjusted line stays adjusted, a shut one shut), intercepts stay. Refused by 0, 2. */
 GRAIN_NODISCARD struct grain_answer grain_repair(struct grain_station *station, uint32_t day);
 
 /* Tests market grain on a line; changes the station's day only. The floats are in percent. asked: the line's own figure
@@ -334,8 +356,8 @@ GRAIN_NODISCARD struct grain_answer grain_repair(struct grain_station *station, 
  * Wet gluten is tested under the protein line's phase and newest sheet. Its intercept is that line's times 3.029, rounded
  * to a hundredth, halves away from zero. It is reported at 14.0 percent moisture and not converted: both figures are equal.
  *
- * Refused by 0, 2, 3, 8, 23, 24, 9 to 14, in this order; by 23 and 24 only where wet gluten is asked for, and by 10 and 14
- * only where it isn't. */
+ * Refused by 0, 2, 3, 8, 23, 24, 9, 10, 11, then 12 (a new line), 25 (an adjusted one) or 26 (a shut one), then 13, 14, in
+ * this order; by 23 and 24 only where wet gluten is asked for, and by 10 and 14 only where it isn't. */
 GRAIN_NODISCARD struct grain_certificate grain_market(struct grain_station *station, uint32_t day, uint64_t line,
                                                       uint32_t scan_kind, float first, float second, float third,
                                                       uint32_t asked, uint32_t basis_kind, int32_t basis);

@@ -3,7 +3,7 @@
 use std::error::Error;
 use std::fmt;
 
-use crate::ffi;
+use crate::ffi::{self, LAYOUT};
 use crate::refusal::{Refusal, answer};
 use crate::store::{self, RestoreError};
 
@@ -105,8 +105,8 @@ impl Chart {
         store::stored(&self.places())
     }
 
-    /// Takes up a stored chart. Numbers that are no sound chart are taken up as well, and refused by
-    /// every call ([`Refusal::Unsound`]).
+    /// Takes up a chart stored in layout 2, or in layout 1: charts are alike in both. Numbers that are
+    /// no sound chart are taken up as well, and refused by every call ([`Refusal::Unsound`]).
     ///
     /// ```
     /// use grain::{Chart, RestoreError};
@@ -117,7 +117,7 @@ impl Chart {
     /// # Ok::<(), RestoreError>(())
     /// ```
     pub fn from_bytes(bytes: &[u8]) -> Result<Chart, RestoreError> {
-        store::restored(bytes).map(Chart::from_places)
+        store::restored(bytes, &[store::FIRST, LAYOUT]).map(Chart::from_places)
     }
 
     /// The chart of 15 numbers. Any may be given: what is no sound chart is refused by every call

@@ -4,17 +4,20 @@
 //! `accepted` is 1 or 0, `number` the refusal's number (0 if accepted), then the values, which are 0
 //! where a call is refused; only a refused text carries its text line.
 
-/// Changes whenever [`Station`] or [`Chart`] does.
-pub const LAYOUT: u32 = 1;
+/// Changes whenever [`Station`] or [`Chart`] does, or what their fields mean.
+pub const LAYOUT: u32 = 2;
 
 /// Places (numbers) of a station.
 pub const STATION: usize = 47;
 /// Places (numbers) of a chart.
 pub const CHART: usize = 15;
 
-/// The phases of a line.
+/// The phases of a [`Line`].
 pub const NEW: i32 = 0;
 pub const OPEN: i32 = 1;
+pub const ADJUSTED: i32 = 2;
+pub const SHUT: i32 = 3;
+/// The phase of an [`Outcome`] that isn't [`OPEN`]: the line is adjusted or shut.
 pub const CHECK_DUE: i32 = 2;
 
 /// The result of an accepted sheet: day, S in hundredths of a percent, N.
@@ -80,7 +83,7 @@ pub struct Value {
     pub hundredths: u32,
 }
 
-/// S, N, the line's phase after the sheet and the change of its intercept.
+/// S, N, the line's phase after the sheet ([`OPEN`] or [`CHECK_DUE`]) and the change of its intercept.
 #[repr(C)]
 #[derive(Clone, Copy, Debug, Default, PartialEq, Eq, Hash)]
 pub struct Outcome {

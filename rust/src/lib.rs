@@ -7,8 +7,8 @@
 //! named. The rules themselves are in the core, which this crate links as a static library.
 //!
 //! Stations and charts are plain numbers without pointers. `to_bytes` stores one with the number of
-//! its layout ([`LAYOUT`]) in front, `from_bytes` takes it up again. They may go to any thread; a
-//! call borrows its own alone.
+//! its layout ([`LAYOUT`]) in front, `from_bytes` takes it up again; a station stored in layout 1 is
+//! carried over by [`Station::from_layout_1`]. They may go to any thread; a call borrows its own alone.
 
 #![deny(unsafe_op_in_unsafe_fn)]
 
@@ -22,6 +22,7 @@ pub use chart::{Chart, ChartValues, TextRefusal, chart_text, chart_text_into};
 pub use ffi::LAYOUT;
 pub use refusal::Refusal;
 pub use station::{
-    Asked, Basis, Certificate, Line, Outcome, PastSet, Phase, Scan, Station, WheatClass, reading,
+    Asked, Basis, Certificate, Line, LinePhase, Outcome, PastSet, Phase, Scan, Station, WheatClass,
+    reading,
 };
 pub use store::RestoreError;

@@ -4,7 +4,7 @@ use std::error::Error;
 use std::fmt;
 
 /// Why a call was refused. The first that applies is answered, in the order of the numbers, 23 and 24
-/// standing between 8 and 9, and the state stays as it was.
+/// standing between 8 and 9, 25 and 26 in the place of 12, and the state stays as it was.
 ///
 /// ```
 /// use grain::{Refusal, Station};
@@ -44,8 +44,8 @@ pub enum Refusal {
     Basis = 10,
     /// The reading with its intercept lies outside 0 to 10000 hundredths.
     Corrected = 11,
-    /// The line isn't open: no sheet has met its averages since it was opened, adjusted or repaired.
-    NotOpen = 12,
+    /// The line is new: no sheet of it was accepted since the station was opened or repaired.
+    NewLine = 12,
     /// The line's newest sheet is more than 7 days old.
     SetTooOld = 13,
     /// The value at the asked basis is above 100 percent before rounding.
@@ -70,10 +70,15 @@ pub enum Refusal {
     GlutenClass = 23,
     /// Wet gluten is asked for with a basis that isn't asked for as standard, 1400 hundredths too.
     GlutenBasis = 24,
+    /// The line was adjusted and its check is due.
+    AdjustedLine = 25,
+    /// The line was shut, and its check is due: its newest sheet kept nothing, or the intercept would
+    /// have left -1000 to 1000 hundredths.
+    ShutLine = 26,
 }
 
 /// Every refusal with its message, in the order of the numbers.
-const MESSAGES: [(Refusal, &str); 25] = [
+const MESSAGES: [(Refusal, &str); 27] = [
     (
         Refusal::Unsound,
         "the stored station or chart is damaged; restore it from a copy or open a new one",
@@ -127,8 +132,9 @@ const MESSAGES: [(Refusal, &str); 25] = [
         "the reading with its intercept lies outside 0.00 to 100.00 percent",
     ),
     (
-        Refusal::NotOpen,
-        "the line is not open; enter a reference sheet that meets its averages first",
+        Refusal::NewLine,
+        "the line is new: no reference sheet of it was accepted since the station was opened or \
+         repaired; enter one that meets its averages first",
     ),
     (
         Refusal::SetTooOld,
@@ -179,10 +185,20 @@ const MESSAGES: [(Refusal, &str); 25] = [
         Refusal::GlutenBasis,
         "wet gluten is reported at 14.0 percent moisture only: ask for the standard basis",
     ),
+    (
+        Refusal::AdjustedLine,
+        "the line was adjusted and its check is due: enter a reference sheet that meets the check \
+         limit first",
+    ),
+    (
+        Refusal::ShutLine,
+        "the line was shut, as its sheet kept no sample or called for an intercept beyond 10.00 \
+         percent, and its check is due: enter a reference sheet that meets the check limit first",
+    ),
 ];
 
 impl Refusal {
-    /// The refusals in the order of their numbers, 0 to 24.
+    /// The refusals in the order of their numbers, 0 to 26.
     pub fn all() -> impl Iterator<Item = Refusal> {
         MESSAGES.iter().map(|(refusal, _)| *refusal)
     }
@@ -193,7 +209,7 @@ impl Refusal {
         MESSAGES.get(place).map(|(refusal, _)| *refusal)
     }
 
-    /// The number, 0 to 24.
+    /// The number, 0 to 26.
     pub fn number(self) -> u8 {
         self as u8
     }

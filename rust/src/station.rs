@@ -1,6 +1,6 @@
 //! Stations: reference sheets, repairs and market tests.
 
-use crate::ffi;
+use crate::ffi::{self, LAYOUT};
 use crate::refusal::{Refusal, answer};
 use crate::store::{self, RestoreError};
 
@@ -31,12 +31,27 @@ pub struct Station {
     state: ffi::Station,
 }
 
-/// A line is new, open for market tests, or has its check due.
+/// A line is new, open for market tests, or has its check due. A sheet's outcome says no more; the line
+/// itself ([`LinePhase`]) tells why the check is due.
 #[derive(Clone, Copy, Debug, PartialEq, Eq, Hash)]
 pub enum Phase {
     New,
     Open,
     CheckDue,
+}
+
+/// The phase of a line as the station holds it.
+#[derive(Clone, Copy, Debug, PartialEq, Eq, Hash)]
+pub enum LinePhase {
+    /// No sheet of it was accepted yet, or the line was open and then repaired.
+    New,
+    /// The newest sheet met every average due.
+    Open,
+    /// Check due: the newest sheet changed the intercept.
+    Adjusted,
+    /// Check due: the newest sheet kept nothing, or would have moved the intercept out of -1000 to 1000,
+    /// and changed nothing.
+    Shut,
 }
 
 /// A past set of a line.
@@ -54,7 +69,7 @@ pub struct PastSet {
 pub struct Line {
     /// Hundredths of a percent.
     pub intercept: i32,
-    pub phase: Phase,
+    pub phase: LinePhase,
     /// At most four, newest first.
     pub past: Vec<PastSet>,
 }
@@ -66,9 +81,10 @@ pub struct Outcome {
     pub sum: i32,
     /// N, twice the number of samples kept; the set's average is S/N hundredths of a percent.
     pub count: u32,
-    /// The line's phase after the sheet.
+    /// The line's phase after the sheet: open, or check due whether adjusted or shut.
     pub phase: Phase,
-    /// The change of the line's intercept in hundredths of a percent, 0 if none.
+    /// The change of the line's intercept in hundredths of a percent, 0 if none. Check due with 0: the
+    /// line is shut.
     pub change: i32,
 }
 
@@ -138,8 +154,9 @@ pub struct Certificate {
 }
 
 impl Phase {
-    fn of(place: i32) -> Option<Phase> {
-        match place {
+    /// The phase that an outcome carries.
+    fn of(code: i32) -> Option<Phase> {
+        match code {
             ffi::NEW => Some(Phase::New),
             ffi::OPEN => Some(Phase::Open),
             ffi::CHECK_DUE => Some(Phase::CheckDue),
@@ -147,6 +164,49 @@ impl Phase {
         }
     }
 }
+
+impl LinePhase {
+    /// The phase that a line holds.
+    fn of(place: i32) -> Option<LinePhase> {
+        match place {
+            ffi::NEW => Some(LinePhase::New),
+            ffi::OPEN => Some(LinePhase::Open),
+            ffi::ADJUSTED => Some(LinePhase::Adjusted),
+            ffi::SHUT => Some(LinePhase::Shut),
+            _ => None,
+        }
+    }
+
+    /// The phase as an outcome says it.
+    ///
+    /// ```
+    /// use grain::{LinePhase, Phase};
+    ///
+    /// assert_eq!(LinePhase::Adjusted.phase(), Phase::CheckDue);
+    /// assert_eq!(LinePhase::Shut.phase(), Phase::CheckDue);
+    /// ```
+    pub fn phase(self) -> Phase {
+        match self {
+            LinePhase::New => Phase::New,
+            LinePhase::Open => Phase::Open,
+            LinePhase::Adjusted | LinePhase::Shut => Phase::CheckDue,
+        }
+    }
+
+    /// The place of layout 2 for one of layout 1, which has 2 for every line whose check is due. Its 3 is
+    /// no phase and stays none.
+    fn carried_over(place: i32, shut: bool) -> i32 {
+        match (place, shut) {
+            (2, true) => ffi::SHUT,
+            (2, false) => ffi::ADJUSTED,
+            (ffi::SHUT, _) => NO_PHASE,
+            (other, _) => other,
+        }
+    }
+}
+
+/// A number that is no phase in any layout.
+const NO_PHASE: i32 = -1;
 
 impl Scan {
     /// The kind and the three floats of the C interface.
@@ -211,7 +271,7 @@ impl Station {
         store::stored(&self.places())
     }
 
-    /// Takes up a stored station. Numbers that are no sound station are taken up as well, and
+    /// Takes up a station stored in layout 2. Numbers that are no sound station are taken up as well, and
     /// refused by every call ([`Refusal::Unsound`]).
     ///
     /// ```
@@ -223,7 +283,40 @@ impl Station {
     /// # Ok::<(), RestoreError>(())
     /// ```
     pub fn from_bytes(bytes: &[u8]) -> Result<Station, RestoreError> {
-        store::restored(bytes).map(Station::from_places)
+        store::restored(bytes, &[LAYOUT]).map(Station::from_places)
+    }
+
+    /// Takes up a station stored in layout 1, where a line whose check is due doesn't tell whether it was
+    /// adjusted or shut. `shut` tells it of each line: whether its newest accepted sheet gave change 0. It
+    /// is looked at where the check is due, and false will do where it isn't known: sheets and certificates
+    /// are the same either way, and only [`Refusal::AdjustedLine`] is told for [`Refusal::ShutLine`].
+    ///
+    /// Numbers that are no sound station are taken up as well, and refused by every call. A phase 3, which
+    /// layout 1 doesn't have, is no shut line then: it is taken up as -1.
+    ///
+    /// ```
+    /// use grain::{Asked, Basis, LinePhase, Refusal, RestoreError, Scan, Station};
+    ///
+    /// // A station of layout 1, its line's check due (2).
+    /// let mut bytes = Station::open(Station::WHEAT).unwrap().to_bytes();
+    /// bytes[0] = 1;
+    /// bytes[4 + 4 * 3] = 2;
+    /// assert_eq!(Station::from_bytes(&bytes), Err(RestoreError::Layout { found: 1 }));
+    ///
+    /// let adjusted = Station::from_layout_1(&bytes, [false; 3])?;
+    /// assert_eq!(adjusted.line(0).unwrap().phase, LinePhase::Adjusted);
+    /// let mut shut = Station::from_layout_1(&bytes, [true, false, false])?;
+    /// assert_eq!(shut.line(0).unwrap().phase, LinePhase::Shut);
+    /// let refused = shut.market(1, 0, Scan::Wheat(13.5), Asked::LineFigure, Basis::Dry);
+    /// assert_eq!(refused, Err(Refusal::ShutLine));
+    /// # Ok::<(), RestoreError>(())
+    /// ```
+    pub fn from_layout_1(bytes: &[u8], shut: [bool; 3]) -> Result<Station, RestoreError> {
+        let mut station = Station::from_places(store::restored(bytes, &[store::FIRST])?);
+        for (line, shut) in station.state.lines.iter_mut().zip(shut) {
+            line.phase = LinePhase::carried_over(line.phase, shut);
+        }
+        Ok(station)
     }
 
     /// The station of 47 numbers. Any may be given: what is no sound station is refused by every
@@ -264,11 +357,11 @@ impl Station {
     /// line.
     ///
     /// ```
-    /// use grain::{Phase, Station};
+    /// use grain::{LinePhase, Station};
     ///
     /// let station = Station::open(Station::WHEAT)?;
     /// let protein = station.line(0).unwrap();
-    /// assert_eq!((protein.intercept, protein.phase), (0, Phase::New));
+    /// assert_eq!((protein.intercept, protein.phase), (0, LinePhase::New));
     /// assert!(protein.past.is_empty());
     /// # Ok::<(), grain::Refusal>(())
     /// ```
@@ -282,7 +375,7 @@ impl Station {
         };
         Some(Line {
             intercept: line.intercept,
-            phase: Phase::of(line.phase)?,
+            phase: LinePhase::of(line.phase)?,
             past: held.iter().map(set).collect(),
         })
     }
@@ -292,13 +385,14 @@ impl Station {
     /// stand in any order: the answer and the station after it are the same.
     ///
     /// ```
-    /// use grain::{Phase, Refusal, Station};
+    /// use grain::{LinePhase, Phase, Refusal, Station};
     ///
     /// let mut station = Station::open(Station::WHEAT)?;
     /// // Every sample 0.11 percent too high: the intercept is lowered and the check is due.
     /// let sheet = [1300, 1311, 1311, -1, -1, -1].repeat(6);
     /// let outcome = station.sheet(1, 0, &sheet)?;
     /// assert_eq!((outcome.sum, outcome.change, outcome.phase), (132, -11, Phase::CheckDue));
+    /// assert_eq!(station.line(0).unwrap().phase, LinePhase::Adjusted);
     /// // First and second more than 0.30 apart: a third is due.
     /// let sheet = [1300, 1300, 1331, -1, -1, -1].repeat(6);
     /// assert_eq!(station.sheet(1, 0, &sheet), Err(Refusal::Third));
@@ -318,15 +412,16 @@ impl Station {
         })
     }
 
-    /// A repair or new slope on this day: new and open lines become new and their past is emptied.
+    /// A repair or new slope on this day: new and open lines become new and their past is emptied. An
+    /// adjusted line stays adjusted and a shut one shut.
     ///
     /// ```
-    /// use grain::{Phase, Station};
+    /// use grain::{LinePhase, Station};
     ///
     /// let mut station = Station::open(Station::WHEAT)?;
     /// station.sheet(1, 0, &[1300, 1300, 1300, -1, -1, -1].repeat(6))?;
     /// station.repair(2)?;
-    /// assert_eq!(station.line(0).unwrap().phase, Phase::New);
+    /// assert_eq!(station.line(0).unwrap().phase, LinePhase::New);
     /// # Ok::<(), grain::Refusal>(())
     /// ```
     pub fn repair(&mut self, day: u32) -> Result<(), Refusal> {
@@ -343,8 +438,28 @@ impl Station {
     /// let mut station = Station::open(Station::CORN)?;
     /// let mut asked = |scan| station.market(1, 2, scan, Asked::LineFigure, Basis::Standard);
     /// let scan = Scan::Corn { protein: 8.125, oil: 3.9, starch: 71.2 };
-    /// assert_eq!(asked(scan), Err(Refusal::NotOpen));
+    /// assert_eq!(asked(scan), Err(Refusal::NewLine));
     /// assert_eq!(asked(Scan::Fault(17)), Err(Refusal::Scan));
+    /// # Ok::<(), Refusal>(())
+    /// ```
+    ///
+    /// A line that isn't open tells why: it is new, it was adjusted, or it was shut.
+    ///
+    /// ```
+    /// use grain::{Asked, Basis, Refusal, Scan, Station};
+    ///
+    /// let mut station = Station::open(Station::WHEAT)?;
+    /// let asked = |station: &mut Station| {
+    ///     let scan = Scan::Wheat(13.54);
+    ///     station.market(1, 0, scan, Asked::LineFigure, Basis::Standard).unwrap_err()
+    /// };
+    /// assert_eq!(asked(&mut station), Refusal::NewLine);
+    /// // 0.11 percent too high: the intercept is lowered.
+    /// station.sheet(1, 0, &[1300, 1311, 1311, -1, -1, -1].repeat(6))?;
+    /// assert_eq!(asked(&mut station), Refusal::AdjustedLine);
+    /// // 10 percent too high: the intercept would leave its bounds.
+    /// station.sheet(1, 0, &[1300, 2311, 2311, -1, -1, -1].repeat(6))?;
+    /// assert_eq!(asked(&mut station), Refusal::ShutLine);
     /// # Ok::<(), Refusal>(())
     /// ```
     ///
@@ -436,6 +551,29 @@ mod tests {
             .map(|line| line.split_whitespace().collect::<Vec<_>>())
             .find(|words| words.starts_with(&["#define", name]));
         words.unwrap()[2].parse().unwrap()
+    }
+
+    #[test]
+    fn phases_are_the_headers() {
+        for (phase, name) in [
+            (LinePhase::New, "GRAIN_NEW"),
+            (LinePhase::Open, "GRAIN_OPEN"),
+            (LinePhase::Adjusted, "GRAIN_ADJUSTED"),
+            (LinePhase::Shut, "GRAIN_SHUT"),
+        ] {
+            let place = defined(name) as i32;
+            assert_eq!(LinePhase::of(place), Some(phase), "{name}");
+        }
+        for (phase, name) in [
+            (Phase::New, "GRAIN_NEW"),
+            (Phase::Open, "GRAIN_OPEN"),
+            (Phase::CheckDue, "GRAIN_CHECK_DUE"),
+        ] {
+            assert_eq!(Phase::of(defined(name) as i32), Some(phase), "{name}");
+        }
+        for none in [NO_PHASE, 4, i32::MIN, i32::MAX] {
+            assert_eq!(LinePhase::of(none), None);
+        }
     }
 
     #[test]

@@ -5,7 +5,10 @@ use std::fmt;
 
 use crate::ffi::LAYOUT;
 
-/// Why stored bytes are no station or chart of this version.
+/// The layout before this one. Its places are the same, and only a line's phase means another thing.
+pub(crate) const FIRST: u32 = 1;
+
+/// Why stored bytes are not taken up as a station or chart.
 ///
 /// ```
 /// use grain::{RestoreError, Station};
@@ -13,14 +16,15 @@ use crate::ffi::LAYOUT;
 /// let mut bytes = Station::open(Station::WHEAT).unwrap().to_bytes();
 /// let error = Station::from_bytes(&bytes[..190]).unwrap_err();
 /// assert_eq!(error.to_string(), "190 bytes are stored where 192 belong");
-/// bytes[0] = 2;
+/// bytes[0] = 3;
 /// let error = Station::from_bytes(&bytes).unwrap_err();
-/// assert_eq!(error, RestoreError::Layout { found: 2 });
-/// assert_eq!(error.to_string(), "stored in layout 2, which this version (layout 1) does not read");
+/// assert_eq!(error, RestoreError::Layout { found: 3 });
+/// assert_eq!(error.to_string(), "stored in layout 3, which this version (layout 2) does not read");
 /// ```
 #[derive(Clone, Copy, Debug, PartialEq, Eq, Hash)]
 pub enum RestoreError {
-    /// The bytes begin with another layout's number: another version stored them.
+    /// The bytes begin with the number of a layout that the call doesn't read. 1: a station of an
+    /// earlier version, which [`Station::from_layout_1`](crate::Station::from_layout_1) carries over.
     Layout { found: u32 },
     /// The bytes are too few or too many.
     Length { found: usize, needed: usize },
@@ -29,6 +33,14 @@ pub enum RestoreError {
 impl fmt::Display for RestoreError {
     fn fmt(&self, f: &mut fmt::Formatter) -> fmt::Result {
         match self {
+            RestoreError::Layout { found: FIRST } => write!(
+                f,
+                "a station stored in layout {FIRST} is taken up by `Station::from_layout_1`"
+            ),
+            RestoreError::Layout { found: LAYOUT } => write!(
+                f,
+                "stored in layout {LAYOUT}, this version's own: nothing is to be carried over"
+            ),
             RestoreError::Layout { found } => write!(
                 f,
                 "stored in layout {found}, which this version (layout {LAYOUT}) does not read"
@@ -53,16 +65,19 @@ pub(crate) fn stored<const BYTES: usize>(places: &[i32]) -> [u8; BYTES] {
     bytes
 }
 
-/// Reads the places. Another layout is told before a wrong length: its states may be longer or
-/// shorter.
-pub(crate) fn restored<const PLACES: usize>(bytes: &[u8]) -> Result<[i32; PLACES], RestoreError> {
+/// Reads the places of a state stored in one of these layouts. Another layout is told before a wrong
+/// length: its states may be longer or shorter.
+pub(crate) fn restored<const PLACES: usize>(
+    bytes: &[u8],
+    layouts: &[u32],
+) -> Result<[i32; PLACES], RestoreError> {
     let length = RestoreError::Length {
         found: bytes.len(),
         needed: 4 + 4 * PLACES,
     };
     let (head, rest) = bytes.split_first_chunk().ok_or(length)?;
     let found = u32::from_le_bytes(*head);
-    if found != LAYOUT {
+    if !layouts.contains(&found) {
         return Err(RestoreError::Layout { found });
     }
     if rest.len() != 4 * PLACES {

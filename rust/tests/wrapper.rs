@@ -5,14 +5,14 @@ use std::path::Path;
 use std::process::Command;
 
 use grain::{
-    Asked, Basis, Chart, LAYOUT, Outcome, Phase, Refusal, RestoreError, Scan, Station, WheatClass,
-    chart_text, chart_text_into,
+    Asked, Basis, Chart, LAYOUT, LinePhase, Outcome, Phase, Refusal, RestoreError, Scan, Station,
+    WheatClass, chart_text, chart_text_into,
 };
 
 #[test]
 fn every_refusal_has_its_number_and_message() {
     let all: Vec<Refusal> = Refusal::all().collect();
-    assert_eq!(all.len(), 25);
+    assert_eq!(all.len(), 27);
     for (number, refusal) in (0..).zip(&all) {
         assert_eq!(refusal.number(), number);
         assert_eq!(Refusal::of(number.into()), Some(*refusal));
@@ -23,9 +23,9 @@ fn every_refusal_has_its_number_and_message() {
         );
     }
     let messages: BTreeSet<&str> = all.iter().map(|refusal| refusal.message()).collect();
-    assert_eq!(messages.len(), 25);
+    assert_eq!(messages.len(), 27);
     assert!(messages.iter().all(|message| message.len() > 20));
-    for none in [25, 100, 256, u32::MAX] {
+    for none in [27, 100, 256, u32::MAX] {
         assert_eq!(Refusal::of(none), None);
     }
 }
@@ -37,7 +37,7 @@ const SAYS: &str = r#"
 int main(void)
 {
     printf("%s\n%d\n", GRAIN_VERSION, GRAIN_LAYOUT);
-    for (uint32_t number = 0; number < 26; number++)
+    for (uint32_t number = 0; number < 28; number++)
         printf("%s\n", grain_message(number));
     return 0;
 }
@@ -114,7 +114,7 @@ fn a_stored_station_goes_on() {
     assert_eq!(again.sheet(6, 0, &sheet), station.sheet(6, 0, &sheet));
     assert_eq!(again, station);
     let line = station.line(0).unwrap();
-    assert_eq!((line.phase, line.past.len()), (Phase::Open, 3));
+    assert_eq!((line.phase, line.past.len()), (LinePhase::Open, 3));
     let newest = line.past[0];
     assert_eq!((newest.day, newest.sum, newest.count), (6, 36, 12));
     assert_eq!(station.line(3), None);
@@ -157,7 +157,7 @@ fn other_bytes_are_not_restored() {
     let chart = Chart::open(Chart::SOYBEAN_OIL).unwrap().to_bytes();
     assert_eq!(Station::from_bytes(&chart), Err(length(64, 192)));
     assert_eq!(Chart::from_bytes(&station), Err(length(192, 64)));
-    for found in [0, LAYOUT + 1, LAYOUT << 8, u32::MAX] {
+    for found in [0, 1, LAYOUT + 1, LAYOUT << 8, u32::MAX] {
         let mut other = station;
         other[..4].copy_from_slice(&found.to_le_bytes());
         let error = Err(RestoreError::Layout { found });
@@ -167,18 +167,140 @@ fn other_bytes_are_not_restored() {
     }
     let text = RestoreError::Layout { found: 9 }.to_string();
     assert!(
-        text.contains("layout 9") && text.contains("layout 1"),
+        text.contains("layout 9") && text.contains("layout 2"),
         "{text}"
     );
     let text = length(64, 192).to_string();
     assert!(text.contains("64") && text.contains("192"), "{text}");
 }
 
+/// Stored places as layout 1 has them.
+fn in_layout_1(places: &[i32]) -> Vec<u8> {
+    let numbers = [&[1], places].concat();
+    numbers
+        .iter()
+        .flat_map(|number| number.to_le_bytes())
+        .collect()
+}
+
+/// The places of the three lines' phases.
+const PHASES: [usize; 3] = [3, 18, 33];
+
+/// Of layout 1 only the phases of lines whose check is due are read otherwise: by what is said of each.
+#[test]
+fn a_station_of_layout_1_is_carried_over() {
+    for shut in [
+        [false; 3],
+        [true, false, false],
+        [false, true, false],
+        [false, false, true],
+        [true; 3],
+    ] {
+        for phases in [
+            [2, 2, 2],
+            [0, 1, 2],
+            [2, 0, 1],
+            [1, 2, 0],
+            [-1, 4, i32::MAX],
+        ] {
+            let mut stored: [i32; 47] = counted();
+            let mut expected = stored;
+            for (line, place) in PHASES.into_iter().enumerate() {
+                stored[place] = phases[line];
+                expected[place] = match phases[line] {
+                    2 if shut[line] => 3,
+                    other => other,
+                };
+            }
+            let station = Station::from_layout_1(&in_layout_1(&stored), shut).unwrap();
+            assert_eq!(station.places(), expected, "{phases:?} {shut:?}");
+        }
+    }
+}
+
+/// A station of layout 1 goes on, and its lines tell what they are told to have been.
+#[test]
+fn a_station_of_layout_1_goes_on() {
+    let mut places = Station::open(Station::CORN).unwrap().places();
+    places[1] = 5;
+    places[PHASES[0]] = 2;
+    places[PHASES[1]] = 2;
+    let bytes = in_layout_1(&places);
+    let mut station = Station::from_layout_1(&bytes, [false, true, true]).unwrap();
+    let scan = Scan::Corn {
+        protein: 8.5,
+        oil: 4.1,
+        starch: 71.2,
+    };
+    let mut refused = |line| {
+        let answer = station.market(5, line, scan, Asked::LineFigure, Basis::Standard);
+        answer.unwrap_err()
+    };
+    assert_eq!(refused(0), Refusal::AdjustedLine);
+    assert_eq!(refused(1), Refusal::ShutLine);
+    assert_eq!(refused(2), Refusal::NewLine);
+    // Stored now it is of this layout.
+    let again = Station::from_bytes(&station.to_bytes()).unwrap();
+    assert_eq!(again, station);
+    let carried = Station::from_layout_1(&station.to_bytes(), [false; 3]);
+    assert_eq!(carried, Err(RestoreError::Layout { found: LAYOUT }));
+}
+
+/// 3 is no phase of layout 1: such a station stays damaged and isn't taken for a shut line.
+#[test]
+fn a_damaged_station_of_layout_1_is_refused() {
+    let mut places = Station::open(Station::WHEAT).unwrap().places();
+    places[PHASES[0]] = 3;
+    for shut in [false, true] {
+        let mut station = Station::from_layout_1(&in_layout_1(&places), [shut; 3]).unwrap();
+        assert_eq!(station.line(0), None);
+        assert_eq!(station.repair(1), Err(Refusal::Unsound));
+    }
+}
+
+#[test]
+fn other_bytes_are_not_carried_over() {
+    let bytes = in_layout_1(&Station::open(Station::WHEAT).unwrap().places());
+    let read = |bytes: &[u8]| Station::from_layout_1(bytes, [false; 3]);
+    assert!(read(&bytes).is_ok());
+    for found in [0, 3, 4, 191] {
+        let length = RestoreError::Length { found, needed: 192 };
+        assert_eq!(read(&bytes[..found]), Err(length));
+    }
+    for found in [0, LAYOUT, LAYOUT + 1, u32::MAX] {
+        let mut other = bytes.clone();
+        other[..4].copy_from_slice(&found.to_le_bytes());
+        assert_eq!(read(&other), Err(RestoreError::Layout { found }));
+    }
+    // Each message is true of the call that gives it.
+    let text = |found| RestoreError::Layout { found }.to_string();
+    assert!(text(1).contains("`Station::from_layout_1`"), "{}", text(1));
+    let own = text(LAYOUT);
+    assert!(own.contains("nothing is to be carried over"), "{own}");
+}
+
+/// Charts are alike in layouts 1 and 2.
+#[test]
+fn a_chart_of_layout_1_is_read() {
+    let bytes = in_layout_1(&counted::<15>());
+    let chart = Chart::from_places(counted());
+    assert_eq!(Chart::from_bytes(&bytes), Ok(chart.clone()));
+    assert_eq!(Chart::from_bytes(&chart.to_bytes()), Ok(chart));
+    for found in [0, LAYOUT + 1, u32::MAX] {
+        let mut other = bytes.clone();
+        other[..4].copy_from_slice(&found.to_le_bytes());
+        assert_eq!(
+            Chart::from_bytes(&other),
+            Err(RestoreError::Layout { found })
+        );
+    }
+}
+
 /// Damaged numbers are restored as they are, and every call refuses them.
 #[test]
 fn a_damaged_station_is_refused() {
     let mut bytes = Station::open(Station::WHEAT).unwrap().to_bytes();
-    bytes[4 + 4 * 3] = 3; // line 0's phase
+    bytes[4 + 4 * 3] = 4; // line 0's phase
     let mut station = Station::from_bytes(&bytes).unwrap();
     assert_eq!(station.repair(1), Err(Refusal::Unsound));
     assert_eq!(station.to_bytes(), bytes);
@@ -187,7 +309,7 @@ fn a_damaged_station_is_refused() {
 #[test]
 fn numbers_of_no_line_are_none() {
     let mut places = [0; 47];
-    places[3] = 3;
+    places[3] = 4;
     places[19] = 5;
     let station = Station::from_places(places);
     assert_eq!(station.line(0), None);
@@ -265,6 +387,46 @@ fn samples_in_any_order() {
         let wrong = [1300, number, 1300, -1, -1, -1];
         let refused = in_every_order([no_third, wrong, needless]);
         assert_eq!(refused, (Err(Refusal::SheetNumber), open_wheat()));
+    }
+}
+
+/// A line that isn't open tells why; a sheet's outcome says check due of adjusted and shut lines.
+#[test]
+fn lines_that_are_not_open() {
+    let mut station = Station::open(Station::WHEAT).unwrap();
+    let line = |station: &Station| station.line(0).unwrap().phase;
+    let refused = |station: &Station| {
+        let scan = Scan::Wheat(13.0);
+        let answer = station
+            .clone()
+            .market(1, 0, scan, Asked::LineFigure, Basis::Dry);
+        answer.err()
+    };
+    let sheet = |result| [1300, result, result, -1, -1, -1].repeat(6);
+    assert_eq!(refused(&station), Some(Refusal::NewLine));
+    // Open; adjusted to -11; beyond the bound; adjusted by the check of a shut line to -17; opened.
+    let sheets = [
+        (1310, LinePhase::Open, None),
+        (1311, LinePhase::Adjusted, Some(Refusal::AdjustedLine)),
+        (2400, LinePhase::Shut, Some(Refusal::ShutLine)),
+        (1317, LinePhase::Adjusted, Some(Refusal::AdjustedLine)),
+        (1317, LinePhase::Open, None),
+    ];
+    for (result, phase, refusal) in sheets {
+        let outcome = station.sheet(1, 0, &sheet(result)).unwrap();
+        assert_eq!((outcome.phase, line(&station)), (phase.phase(), phase));
+        assert_eq!(
+            outcome.phase == Phase::CheckDue && outcome.change == 0,
+            phase == LinePhase::Shut
+        );
+        assert_eq!(refused(&station), refusal, "{result}");
+        let mut repaired = station.clone();
+        repaired.repair(1).unwrap();
+        let then = match phase {
+            LinePhase::Open => LinePhase::New,
+            other => other,
+        };
+        assert_eq!(line(&repaired), then);
     }
 }
 

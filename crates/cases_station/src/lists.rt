@@ -7,7 +7,7 @@ use station_rules::Basis;
 use station_rules::CornSet;
 use station_rules::Scan;
 
-// Adjusted by S 122, not open, opened by its check, certified with the new intercept.
+// Adjusted by S 122, its check due, opened by its check, certified with the new intercept.
 pub(crate) fn adjusted() -> Places {
     say::heading(b"adjust, check, certify");
     let new = calls::open(0);
@@ -17,7 +17,7 @@ pub(crate) fn adjusted() -> Places {
     calls::market(open, 3, Scan::Wheat(13.5), Basis::Standard)
 }
 
-// A day before the last, a repair, not open, opened by a sheet.
+// A day before the last, a repair, new, opened by a sheet.
 pub(crate) fn repaired(s: Places) {
     say::heading(b"a day before the last, repair, check, certify");
     let early = calls::but_last(s, 2, 1010, [1011, 1011, -1]);
@@ -45,7 +45,8 @@ pub(crate) fn shut_by_bound() {
     let most = calls::alike(new, 1, 1000, 0);
     let open = calls::alike(most, 2, 1000, 0);
     let shut = calls::alike(open, 3, 1011, 0);
-    let checked = calls::alike(shut, 4, 1000, 0);
+    let refused = calls::market(shut, 3, Scan::Wheat(12.0), Basis::Standard);
+    let checked = calls::alike(refused, 4, 1000, 0);
     calls::market(checked, 4, Scan::Wheat(12.0), Basis::Standard);
 }
 

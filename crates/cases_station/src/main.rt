@@ -4,6 +4,7 @@ mod gluten;
 mod lists;
 mod numbers;
 mod order;
+mod phases;
 mod say;
 mod sheets;
 mod worked;
@@ -19,6 +20,10 @@ fn main() {
     numbers::lines(numbers::scans());
     order::accepted();
     order::refused();
+    phases::in_turn();
+    phases::opened_and_repaired();
+    phases::repaired_check();
+    phases::order();
     gluten::intercepts();
     gluten::derived();
     gluten::scans();

@@ -1,7 +1,8 @@
-// Each number of refusal once, 0 to 14 in their order; 23 and 24 are among the cases of gluten.
+// Each number of refusal once, 0 to 14 in their order, with 25 and 26 beside 12; 23 and 24 are among the cases of gluten.
 use super::calls;
 use super::calls::Places;
 use super::say;
+use super::sheets;
 use station_rules::Basis;
 use station_rules::Scan;
 
@@ -32,7 +33,7 @@ pub(crate) fn sheet_numbers() {
 
 pub(crate) fn scans() -> Places {
     say::heading(
-        b"numbers 8 to 11 on a line that an S of 132 left check due: fault 0; above 100; basis -1; h -11",
+        b"numbers 8 to 11 on a line that an S of 132 left adjusted: fault 0; above 100; basis -1; h -11",
     );
     let due = calls::alike(calls::fresh(0), 1, 1000, 1011);
     calls::market(due, 1, Scan::Fault(0), Basis::Dry);
@@ -42,8 +43,13 @@ pub(crate) fn scans() -> Places {
 }
 
 pub(crate) fn lines(due: Places) {
-    say::heading(b"numbers 12 to 14: check due; checked; a set 8 days old; h 8801 dry");
+    say::heading(
+        b"numbers 12, 25, 26, 13, 14: new; adjusted; shut; checked, a set 8 days old; h 8801 dry",
+    );
+    calls::market(calls::fresh(0), 1, Scan::Wheat(12.0), Basis::Dry);
     calls::market(due, 1, Scan::Wheat(12.0), Basis::Dry);
+    let shut = calls::sheet(due, 1, sheets::apart(1100, 900));
+    calls::market(shut, 1, Scan::Wheat(12.0), Basis::Dry);
     let open = calls::alike(due, 1, 1000, 1011);
     calls::market(open, 9, Scan::Wheat(12.0), Basis::Dry);
     calls::market(open, 1, Scan::Wheat(88.12), Basis::Dry);

@@ -1,9 +1,9 @@
 // An answer as a line of text: the call's day and line, then the refusal's number or the values. All of it comes from the call and its answer.
 use libc::STDOUT_FILENO;
+use station_rules::CHECK_DUE;
 use station_rules::Certificate;
 use station_rules::MarketAnswer;
-use station_rules::NEW_LINE;
-use station_rules::OPEN_LINE;
+use station_rules::OPEN;
 use station_rules::OpenAnswer;
 use station_rules::Outcome;
 use station_rules::Refusal;
@@ -40,9 +40,9 @@ fn refusal(r: Refusal) {
 
 fn phase(p: u32) {
     match p {
-        NEW_LINE => text(b" new"),
-        OPEN_LINE => text(b" open"),
-        _ => text(b" check due"),
+        OPEN => text(b" open"),
+        CHECK_DUE => text(b" check due"),
+        _ => text(b" no phase of an outcome"),
     }
 }
 

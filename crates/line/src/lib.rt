@@ -1,14 +1,17 @@
 // A line in its 15 places (docs/SPECIFICATION.md, "A line between sheets"): read, and written after a sheet or a repair.
-use station_rules::CHECK_DUE_LINE;
+use station_rules::ADJUSTED_LINE;
+use station_rules::CHECK_DUE;
 use station_rules::FIRST_SET;
 use station_rules::HELD_PLACE;
 use station_rules::INTERCEPT_PLACE;
 use station_rules::LINE_PLACES;
 use station_rules::Line;
 use station_rules::NEW_LINE;
+use station_rules::OPEN;
 use station_rules::OPEN_LINE;
 use station_rules::PHASE_PLACE;
 use station_rules::PastSet;
+use station_rules::SHUT_LINE;
 use station_rules::Verdict;
 use whole::Int;
 use whole::held;
@@ -19,17 +22,20 @@ ghost use lib.ListN.{length};
 ghost use Rattle.whole.specs.Parts.{Within};
 ghost use Rattle.whole.specs.Places.{place};
 ghost use Rattle.station_rules.specs.Places.{setAt, lineIn};
-ghost use Rattle.station_rules.specs.InPlace.{joinedPlaces, onlyPlaces, openedPlaces, closedPlaces, sheetLine, repairedPlaces};
-ghost use Rattle.station_rules.specs.Held.{phaseWord, phaseHeld};
+ghost use Rattle.station_rules.specs.InPlace.{joinedPlaces, onlyPlaces, openedPlaces, sheetLine, repairedPlaces};
+ghost use Rattle.station_rules.specs.Lines.{changeOf};
+ghost use Rattle.station_rules.specs.Held.{phaseWord, phaseSaid};
 ghost use Rattle.line.specs.Ranges.{SetFits};
-ghost use Rattle.line.specs.Written.{emptied, phasePlace};
+ghost use Rattle.line.specs.Written.{emptied, closedWith, phasePlace};
 
 // The phases, as they stand in their place.
 const NEW_PHASE: i32 = NEW_LINE as i32;
 
 const OPEN_PHASE: i32 = OPEN_LINE as i32;
 
-const CHECK_DUE_PHASE: i32 = CHECK_DUE_LINE as i32;
+const ADJUSTED_PHASE: i32 = ADJUSTED_LINE as i32;
+
+const SHUT_PHASE: i32 = SHUT_LINE as i32;
 
 // Where the sets after the newest stand.
 const SECOND_SET: usize = FIRST_SET + held::SET_PLACES;
@@ -118,22 +124,22 @@ fn open(part: &mut [i32], p: PastSet)
     requires { ⌜ (lineIn (now part) .held ≤ 4) × (SetFits p) ⌝ }
     ensures { λ r. ⌜ now (part .exit) ≡ openedPlaces (phaseWord (lineIn (now (part .entry)) .phase)) (now (part .entry)) p ⌝ }
 {
-    if places::natural_at(part, PHASE_PLACE) < CHECK_DUE_LINE {
+    if places::natural_at(part, PHASE_PLACE) < ADJUSTED_LINE {
         join(part, p);
     } else {
         begin(part, p);
     }
 }
 
-// After a sheet that didn't.
-fn close(part: &mut [i32], change: Int)
+// After a sheet that didn't: its phase, and the change of the intercept.
+fn close(part: &mut [i32], phase: Int, change: Int)
     requires { ⌜ length (now part) ≡ 15 ⌝ }
     requires { ⌜ (Within 1000 1000 (place (now part) 0)) × (Within 2000000 2000000 (change .z)) ⌝ }
-    ensures { λ r. ⌜ now (part .exit) ≡ closedPlaces (now (part .entry)) (change .z) ⌝ }
+    ensures { λ r. ⌜ now (part .exit) ≡ closedWith (now (part .entry)) (phase .z) (change .z) ⌝ }
 {
     let intercept = whole::add(places::number_at(part, INTERCEPT_PLACE), change);
     places::put(part, INTERCEPT_PLACE, intercept);
-    places::put(part, PHASE_PLACE, Int { z: CHECK_DUE_PHASE });
+    places::put(part, PHASE_PLACE, phase);
     empty(part);
 }
 
@@ -141,20 +147,36 @@ fn close(part: &mut [i32], change: Int)
 pub fn enter_sheet(part: &mut [i32], p: PastSet, v: Verdict)
     requires { ⌜ length (now part) ≡ 15 ⌝ }
     requires { ⌜ (lineIn (now part) .held ≤ 4) × (SetFits p) ⌝ }
-    requires { ⌜ (Within 1000 1000 (place (now part) 0)) × (Within 2000000 2000000 (v .change)) ⌝ }
+    requires { ⌜ (Within 1000 1000 (place (now part) 0)) × (Within 2000000 2000000 (changeOf v)) ⌝ }
     ensures { λ r. ⌜ now (part .exit) ≡ sheetLine (now (part .entry)) p v ⌝ }
 {
-    if v.met {
-        open(part, p);
-    } else {
-        close(part, Int { z: v.change });
+    match v {
+        Verdict::Met => open(part, p),
+        Verdict::Adjusted(change) => close(part, Int { z: ADJUSTED_PHASE }, Int { z: change }),
+        Verdict::Shut => close(part, Int { z: SHUT_PHASE }, Int { z: 0 }),
     }
 }
 
-pub fn phase_after(v: Verdict) -> u32
-    ensures { λ r. ⌜ r ≡ phaseHeld v ⌝ }
+// What an outcome says of the phase: an adjusted line and a shut one have their check due.
+pub fn phase_said(v: Verdict) -> u32
+    ensures { λ r. ⌜ r ≡ phaseSaid v ⌝ }
 {
-    if v.met { OPEN_LINE } else { CHECK_DUE_LINE }
+    match v {
+        Verdict::Met => OPEN,
+        Verdict::Adjusted(_) => CHECK_DUE,
+        Verdict::Shut => CHECK_DUE,
+    }
+}
+
+// The intercept's change that an outcome carries.
+pub fn change_of(v: Verdict) -> Int
+    ensures { λ r. ⌜ r .z ≡ changeOf v ⌝ }
+{
+    match v {
+        Verdict::Met => Int { z: 0 },
+        Verdict::Adjusted(change) => whole::wrap(change),
+        Verdict::Shut => Int { z: 0 },
+    }
 }
 
 // ---- written after a repair
@@ -164,10 +186,11 @@ fn repaired_phase(part: &[i32]) -> Int
     requires { ⌜ length (now part) ≡ 15 ⌝ }
     ensures { λ r. ⌜ r .z ≡ phasePlace (now (part .entry)) ⌝ }
 {
-    if places::natural_at(part, PHASE_PLACE) < CHECK_DUE_LINE {
+    let stands = places::number_at(part, PHASE_PLACE);
+    if places::natural_at(part, PHASE_PLACE) < ADJUSTED_LINE {
         Int { z: NEW_PHASE }
     } else {
-        places::number_at(part, PHASE_PLACE)
+        stands
     }
 }
 

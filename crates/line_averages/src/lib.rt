@@ -2,7 +2,7 @@
 mod answer;
 
 pub use answer::Found;
-use station_rules::CHECK_DUE_LINE;
+use station_rules::ADJUSTED_LINE;
 use station_rules::HELD_SETS;
 use station_rules::Limits;
 use station_rules::PastSet;
@@ -13,7 +13,7 @@ ghost use mathlib.Core.Path.{_≡_};
 ghost use mathlib.Core.List.{[]};
 ghost use Prim.Native.Nat.{_≤_};
 ghost use lib.ListN.{take, getD};
-ghost use Rattle.station_rules.specs.Lines.{testOf, exceeded, plus, firstExceeded, fiveTest, averagesDue, testsBy, checkDueLine};
+ghost use Rattle.station_rules.specs.Lines.{testOf, exceeded, plus, firstExceeded, fiveTest, averagesDue, testsBy, adjustedLine};
 ghost use Rattle.station_rules.specs.Held.{noSet, phaseWord};
 ghost use Rattle.line_past.specs.Ranges.{SetsOf};
 ghost use Rattle.line_averages.specs.Ranges.{TestFits, FoundFits, Limited, Due, Joined};
@@ -111,10 +111,10 @@ fn one_set(limits: Limits, set: Set, k: usize, past: [PastSet; HELD_SETS]) -> Fo
     two_sets(limits, set, k, past)
 }
 
-// The check of a line that is check due.
+// The check of an adjusted or shut line.
 fn check(limits: Limits, set: Set) -> Found
     requires { ⌜ (Limited limits) × ((SetsOf 1 (set .sum) (set .count)) × (1 ≤ set .count)) ⌝ }
-    ensures { λ r. ⌜ (r ≡ foundOf (firstExceeded (testsBy limits checkDueLine set []))) × FoundFits r ⌝ }
+    ensures { λ r. ⌜ (r ≡ foundOf (firstExceeded (testsBy limits adjustedLine set []))) × FoundFits r ⌝ }
 {
     let t = test_of(limits.check, set);
     if is_exceeded(t) {
@@ -134,7 +134,7 @@ pub fn first_exceeded(
     requires { ⌜ Due limits set k past ⌝ }
     ensures { λ r. ⌜ (r ≡ foundOf (firstExceeded (testsBy limits (phaseWord phase) set (take k past)))) × FoundFits r ⌝ }
 {
-    if phase < CHECK_DUE_LINE {
+    if phase < ADJUSTED_LINE {
         one_set(limits, set, k, past)
     } else {
         check(limits, set)

@@ -1,23 +1,23 @@
 -- The verdict on a set by the test found, and an adjustment by its test.
-use mathlib.Core.Path.{_≡_, refl, sym, ap, subst, _∙_}
+use mathlib.Core.Path.{_≡_, refl, sym, ap, _∙_}
 use mathlib.Core.Bool.{Bool, true, false}
 use mathlib.Core.List.{List}
 use mathlib.Core.Option.{Option, none, some}
 use Prim.Native.Nat.{ℕ, zero, suc, _≤_}
 use native.Mathlib.Omega.{arith}
 use lib.Dec.{leb}
-use lib.IntN.{ℤ, pos, negℤ, natAbs, _-ℤ_}
+use lib.IntN.{ℤ, negℤ, natAbs, _-ℤ_}
 use lib.ListN.{length, take}
 use lib.Seq.{take-take}
 use borrow.Author.Tests.{eq-eqb, ne-eqb}
-use Rattle.whole.specs.Parts.{Within}
 use Rattle.whole.proofs.ListLaws.{cond-yes, cond-no}
-use Rattle.station_rules.specs.Lines.{validOn, testsBy, firstExceeded, judged, verdictOf, adjustBy, shut, roundedAverage}
+use Rattle.station_rules.specs.Lines.{validOn, testsBy, firstExceeded, judged, verdictOf, adjustBy, roundedAverage}
 use Rattle.station_rules.specs.Held.{lineValues, phaseWord}
 use Rattle.station_rules.specs.declared.Limits.{Limits}
 use Rattle.station_rules.specs.declared.Set.{Set}
 use Rattle.station_rules.specs.declared.Test.{Test}
 use Rattle.station_rules.specs.declared.Verdict.{Verdict}
+use Rattle.station_rules.specs.declared.Verdict.the-variants.{Met, Adjusted, Shut}
 use Rattle.station_rules.specs.declared.PastSet.{PastSet}
 use Rattle.station_rules.specs.declared.Line.{Line}
 use Rattle.line_past.proofs.ValidLaws.{valid-first}
@@ -30,17 +30,14 @@ use Rattle.line.specs.Ranges.{LineFits}
 
 abbrev pub verdictBy : ℤ → Found → Verdict
 verdictBy intercept (Exceeded t) = adjustBy intercept (roundedAverage t)
-verdictBy intercept Nothing = record { change = pos 0; met = true }
+verdictBy intercept Nothing = Met
 
 by-found : (intercept : ℤ) (o : Option Test) → verdictBy intercept (foundOf o) ≡ judged intercept o
 by-found intercept none = refl
 by-found intercept (some t) = refl
 
-pub shut-small : {v : Verdict} → v ≡ shut → Within 2000000 2000000 (v .change)
-shut-small e = subst (λ (v : Verdict). Within 2000000 2000000 (v .change)) (sym e) (omega arith)
-
 module _ (limits : Limits) (l : Line) (day : ℕ) (set : Set) where
-  pub verdict-shut : set .count ≡ 0 → shut ≡ verdictOf limits (lineValues l) day set
+  pub verdict-shut : set .count ≡ 0 → Shut ≡ verdictOf limits (lineValues l) day set
   unfolding verdictOf
   verdict-shut h = cond-yes _ _ refl (eq-eqb (set .count) 0 h)
 
@@ -63,8 +60,8 @@ some-of (suc n) h = omega arith
 -- ---- an adjustment
 
 module _ (i a : ℤ) {next : ℤ} {b : Bool} (e : next ≡ i -ℤ a) (f : b ≡ leb (natAbs next) 1000) where
-  pub adjust-yes : (change : ℤ) → b ≡ true → change ≡ negℤ a → _≡_ {A = Verdict} (record { change = change; met = false }) (adjustBy i a)
-  adjust-yes change g h = (λ k. record { change = h k; met = false }) ∙ cond-yes _ _ (f ∙ ap (λ (z : ℤ). leb (natAbs z) 1000) e) g
+  pub adjust-yes : (change : ℤ) → b ≡ true → change ≡ negℤ a → Adjusted change ≡ adjustBy i a
+  adjust-yes change g h = ap Adjusted h ∙ cond-yes _ _ (f ∙ ap (λ (z : ℤ). leb (natAbs z) 1000) e) g
 
-  pub adjust-no : b ≡ false → shut ≡ adjustBy i a
+  pub adjust-no : b ≡ false → Shut ≡ adjustBy i a
   adjust-no g = cond-no _ _ (f ∙ ap (λ (z : ℤ). leb (natAbs z) 1000) e) g

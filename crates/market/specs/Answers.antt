@@ -19,10 +19,10 @@ use Rattle.station_rules.specs.Held.{Station}
 use Rattle.station_rules.specs.declared.MarketAnswer.{MarketAnswer}
 use Rattle.market_certificate.specs.Certified.{answerBy, certificateBy, lastChecks}
 
--- numbers 10 to 14, by A, the line's values, the day, B and h
+-- numbers 10 to 12, 25, 26, 13 and 14, by A, the line's values, the day, B and h
 abbrev pub valueChecks : ℕ → Values → ℕ → ℤ → ℤ → List (Check ℕ)
 valueChecks a v day b h =
-    record { answer = 10; applies = not (within 0 5000 b) } ∷ record { answer = 11; applies = not (within 0 10000 h) } ∷ lastChecks a v day b h
+    record { answer = 10; applies = not (within 0 5000 b) } ∷ record { answer = 11; applies = not (within 0 10000 h) } ∷ lastChecks (v .phase) a v day b h
 
 -- and the answer, by the intercept too
 unfoldable pub valuedOf : ℕ → Values → ℕ → ℤ → ℤ → ℤ → MarketAnswer
@@ -35,7 +35,7 @@ readOf row v day n asked basis =
     let i = askedIntercept asked (v .intercept) in
     valuedOf a v day i (basisOf a basis) (pos n +ℤ i)
 
--- numbers 23, 24 and 9 to 14, of the float asked for
+-- numbers 23, 24, 9 to 12, 25, 26, 13 and 14, of the float asked for
 unfoldable pub floatedOf : ℕ → Values → ℕ → Float → Asked → Basis → MarketAnswer
 floatedOf row v day x asked basis =
     let a = basisFrom row asked in
@@ -50,7 +50,7 @@ floatedOf row v day x asked basis =
     ∷ valueChecks a v day b h))
     (certificateBy a v i b h)
 
--- numbers 8, 23, 24 and 9 to 14
+-- numbers 8, 23, 24, 9 to 12, 25, 26, 13 and 14
 unfoldable pub testedOf : ℕ → Values → ℕ → ℕ → Scan → Asked → Basis → MarketAnswer
 testedOf row v day line scan asked basis = answerBy (firstNumber (marketChecks row v line scan asked basis day)) (certificateOf row v line scan asked basis)
 

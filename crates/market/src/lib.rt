@@ -19,7 +19,7 @@ ghost use Rattle.station_rules.specs.InPlace.{marketIn};
 ghost use Rattle.line.specs.Ranges.{LineFits};
 ghost use Rattle.market.specs.Answers.{readOf, floatedOf, testedOf, answeredOf};
 
-// Numbers 10 to 14, of a reading n.
+// Numbers 10 to 12, 25, 26, 13 and 14, of a reading n.
 fn judge_reading(row: u32, l: Line, day: u32, n: u32, asked: Asked, basis: Basis) -> MarketAnswer
     requires { ⌜ (n ≤ 10000) × (LineFits l) ⌝ }
     ensures { λ r. ⌜ r ≡ readOf row (lineValues l) day n asked basis ⌝ }
@@ -37,7 +37,7 @@ fn judge_reading(row: u32, l: Line, day: u32, n: u32, asked: Asked, basis: Basis
     market_certificate::certify(a, l, day, i, b, h)
 }
 
-// Numbers 23, 24 and 9 to 14, of the float asked for.
+// Numbers 23, 24, 9 to 12, 25, 26, 13 and 14, of the float asked for.
 fn judge_float(row: u32, l: Line, day: u32, x: f32, asked: Asked, basis: Basis) -> MarketAnswer
     requires { ⌜ LineFits l ⌝ }
     ensures { λ r. ⌜ r ≡ floatedOf row (lineValues l) day x asked basis ⌝ }
@@ -54,7 +54,7 @@ fn judge_float(row: u32, l: Line, day: u32, x: f32, asked: Asked, basis: Basis) 
     }
 }
 
-// Numbers 8, 23, 24 and 9 to 14.
+// Numbers 8, 23, 24, 9 to 12, 25, 26, 13 and 14.
 fn judge_scan(
     row: u32,
     l: Line,
@@ -73,7 +73,7 @@ fn judge_scan(
     }
 }
 
-// All numbers of a market test: 0, 2, 3, 8, 23, 24 and 9 to 14.
+// All numbers of a market test: 0, 2, 3, 8, 23, 24, 9 to 12, 25, 26, 13 and 14.
 fn answer(
     state: &[i32],
     day: u32,

@@ -5,8 +5,8 @@ use mathlib.Core.List.{List}
 use Prim.Native.Nat.{ℕ, _<_, _≤_}
 use lib.IntN.{ℤ}
 use Rattle.station_rules.specs.Rows.{lineCount, limitsOf}
-use Rattle.station_rules.specs.Lines.{pastSet, verdictOf}
-use Rattle.station_rules.specs.Held.{phaseHeld}
+use Rattle.station_rules.specs.Lines.{pastSet, verdictOf, changeOf}
+use Rattle.station_rules.specs.Held.{phaseSaid}
 use Rattle.station_rules.specs.Soundness.{sound}
 use Rattle.station_rules.specs.Stations.{valuesOf}
 use Rattle.station_rules.specs.Places.{linePlaces, stationIn}
@@ -23,7 +23,7 @@ acceptedIn words day line counted =
     let s = stationIn words in
     let v = verdictOf (limitsOf (s .row) line) (valuesOf s line) day counted in
     record {
-      answer = SheetAnswer.Accepted (record { sum = counted .sum; count = counted .count; phase = phaseHeld v; change = v .change });
+      answer = SheetAnswer.Accepted (record { sum = counted .sum; count = counted .count; phase = phaseSaid v; change = changeOf v });
       places = withDay (withLine words line (sheetLine (linePlaces words line) (pastSet day counted) v)) day;
     }
 

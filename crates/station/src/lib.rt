@@ -69,11 +69,12 @@ fn accept(state: &mut [i32], day: u32, line: usize, set: Set) -> Outcome
     };
     station_places::enter_sheet(state, line, p, v);
     station_places::put_day(state, day);
+    let change = line::change_of(v);
     Outcome {
         sum: set.sum,
         count: set.count,
-        phase: line::phase_after(v),
-        change: v.change,
+        phase: line::phase_said(v),
+        change: whole::bare(change),
     }
 }
 

@@ -11,6 +11,7 @@ ghost use mathlib.Core.Path.{_≡_};
 ghost use Prim.Native.Nat.{_≤_, _<_};
 ghost use lib.ListN.{length};
 ghost use Rattle.whole.specs.Parts.{Within};
+ghost use Rattle.station_rules.specs.Lines.{changeOf};
 ghost use Rattle.station_rules.specs.Stations.{lineOf};
 ghost use Rattle.station_rules.specs.Places.{linePlaces, stationIn};
 ghost use Rattle.station_rules.specs.InPlace.{sheetLine, withDay, withLine, withRepaired};
@@ -53,7 +54,7 @@ pub fn put_day(state: &mut [i32], day: u32)
 pub fn enter_sheet(state: &mut [i32], line: usize, p: PastSet, v: Verdict)
     requires { ⌜ (length (now state) ≡ 47) × (line < 3) ⌝ }
     requires { ⌜ (lineOf (stationIn (now state)) line .held ≤ 4) × (SetFits p) ⌝ }
-    requires { ⌜ (Within 1000 1000 (lineOf (stationIn (now state)) line .intercept)) × (Within 2000000 2000000 (v .change)) ⌝ }
+    requires { ⌜ (Within 1000 1000 (lineOf (stationIn (now state)) line .intercept)) × (Within 2000000 2000000 (changeOf v)) ⌝ }
     ensures { λ r. ⌜ now (state .exit) ≡ withLine (now (state .entry)) line (sheetLine (linePlaces (now (state .entry)) line) p v) ⌝ }
 {
     let start = FIRST_LINE + LINE_PLACES * line;

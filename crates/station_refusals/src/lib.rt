@@ -19,10 +19,12 @@ pub fn number(r: Refusal) -> u32
         Refusal::BadFloat => 9,
         Refusal::BadBasis => 10,
         Refusal::BadValue => 11,
-        Refusal::NotOpen => 12,
+        Refusal::NewLine => 12,
         Refusal::OldSet => 13,
         Refusal::TooHigh => 14,
         Refusal::GlutenClass => 23,
         Refusal::GlutenBasis => 24,
+        Refusal::AdjustedLine => 25,
+        Refusal::ShutLine => 26,
     }
 }

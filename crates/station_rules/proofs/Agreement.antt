@@ -10,7 +10,7 @@ use native.Mathlib.Decide.{ℕ-discrete}
 use lib.Dec.{T, eqb, leb, ltb, le→leb, ltb→lt}
 use lib.ListN.{length, take, getD, set, replicate, length-set, length-map, List·getD-map}
 use lib.Seq.{getD-set-same, getD-set-other}
-use lib.IntN.{ℤ, natAbs}
+use lib.IntN.{ℤ, natAbs, _+ℤ_}
 use lib.Ieee.Fits.{eq→eqb}
 use borrow.Author.Tests.{ltb-false, eq-eqb, ne-eqb, eqb-false}
 use Rattle.whole.specs.Lists.{all, Check}
@@ -18,15 +18,15 @@ use Rattle.whole.proofs.Tests.{and-i, to-true, or-none, not-false-T}
 use Rattle.station_rules.specs.Rows.{rowExists, samples, lineCount, limitsOf}
 use Rattle.station_rules.specs.Refusals.{firstNumber, numberOf, refusalOf}
 use Rattle.station_rules.specs.Sheets.{sheetChecks}
-use Rattle.station_rules.specs.Lines.{Values, pastSet, phaseAfter}
+use Rattle.station_rules.specs.Lines.{LinePhase, openPhase, checkDuePhase, Values, pastSet, changeOf, isMet}
 use Rattle.station_rules.specs.Markets.{certificateOf, marketChecks}
 use Rattle.station_rules.specs.Judging.{dayCheck, lineCheck, sheetNumbers, marketNumbers, repairNumbers, sheetSet, sheetVerdict}
-use Rattle.station_rules.specs.Held.{phaseWord, phaseCode, phaseHeld, repairedPhase, freshLine, lineAfter, repairedLine}
+use Rattle.station_rules.specs.Held.{saidWord, phaseSaid, repairedPhase, freshLine, lineAfter, repairedLine}
 use Rattle.station_rules.specs.Soundness.{sound, soundLine, soundSet, soundCheck}
 use Rattle.station_rules.specs.Stations.{freshStation, openOf, valuesOf, sheetStation, repairStation, marketStation, outcomeOf, sheetResult, sheetOf, repairResult, repairOf, marketResult, marketOf}
 use Rattle.station_rules.specs.Replies.{Reply, refusedBy, outcome, repaired, certificate, sheetReply, repairReply, marketReply}
 use Rattle.station_rules.specs.Calls.{Call, sheetCall, repairCall, marketCall, stationAfter, stationReply, replies, stationAfterAll}
-use Rattle.station_rules.specs.Books.{Book, SheetEntry, sheetEntry, freshBook, bookValues, bookIntercept, bookPhase, bookPast, bookNumber, entryOf, accepted, grantedReply, orRefused, orSame, bookReply, bookAfter, bookReplies, bookAfterAll}
+use Rattle.station_rules.specs.Books.{Book, SheetEntry, sheetEntry, freshBook, bookValues, bookIntercept, bookPhase, bookPast, bookNumber, entryPhase, entryOf, accepted, grantedReply, orRefused, orSame, bookReply, bookAfter, bookReplies, bookAfterAll}
 use Rattle.station_rules.specs.Laws.{OpensFresh, StaysSound}
 use Rattle.station_rules.specs.declared.OpenAnswer.{OpenAnswer}
 use Rattle.station_rules.specs.declared.Outcome.{Outcome}
@@ -37,6 +37,7 @@ use Rattle.station_rules.specs.declared.Basis.{Basis}
 use Rattle.station_rules.specs.declared.Line.{Line}
 use Rattle.station_rules.specs.declared.Set.{Set}
 use Rattle.station_rules.specs.declared.Verdict.{Verdict}
+use Rattle.station_rules.specs.declared.Verdict.the-variants.{Met, Adjusted, Shut}
 use Rattle.station_rules.specs.Held.{Station}
 use Rattle.station_rules.proofs.Checks.{hasRefusal, known-number, none-head, none-tail, passed-over}
 use Rattle.whole.proofs.Elements.{all-take, all-at}
@@ -45,6 +46,7 @@ use Rattle.station_rules.proofs.NewestFour.{numbers-four, set-four, she
 use Rattle.station_rules.proofs.SheetBounds.{Bounded, set-bounded}
 use Rattle.station_rules.proofs.BookValues.{other-values, met-values, unmet-values, repair-values}
 use Rattle.station_rules.proofs.Verdicts.{met-is-met, verdict-met, verdict-small}
+use Rattle.station_rules.proofs.Adjustments.{adjustment-changes}
 use Rattle.station_rules.proofs.Invariant.{LineAgrees, later-line, line-sound, fresh-line, after-met, after-unmet, after-repair}
 
 -- ---- a station's call, as a number or what it comes to when accepted
@@ -62,7 +64,7 @@ nextOf s (marketCall day line scan asked basis) = marketStation s day
 unfoldable pub grantedOf : Station → Call → Reply
 grantedOf s (sheetCall day line numbers) =
     let o = outcomeOf s day line numbers in
-    outcome (o .sum) (o .count) (phaseWord (o .phase)) (o .change)
+    outcome (o .sum) (o .count) (saidWord (o .phase)) (o .change)
 grantedOf s (repairCall day) = repaired
 grantedOf s (marketCall day line scan asked basis) =
     let c = certificateOf (s .row) (valuesOf s line) line scan asked basis in
@@ -73,7 +75,7 @@ orStays none s next = next
 orStays (some number) s next = s
 
 -- every check's number is that of a refusal
-all-known : (s : Station) (c : Call) → T (all (λ k. hasRefusal (k .answer)) (checksOf s c))
+pub all-known : (s : Station) (c : Call) → T (all (λ k. hasRefusal (k .answer)) (checksOf s c))
 unfolding checksOf sheetNumbers sheetChecks marketNumbers marketChecks
 all-known s (sheetCall day line numbers) = tt
 all-known s (repairCall day) = tt
@@ -86,7 +88,7 @@ module _ (s next : Station) (outcome : Outcome) where
   sheet-station (some n) = refl
 
   sheet-reply : (o : Option ℕ) → ((n : ℕ) → o ≡ some n → numberOf (refusalOf n) ≡ n)
-      → sheetReply (sheetResult o s next outcome .answer) ≡ orRefused o (Reply.outcome (outcome .sum) (outcome .count) (phaseWord (outcome .phase)) (outcome .change))
+      → sheetReply (sheetResult o s next outcome .answer) ≡ orRefused o (Reply.outcome (outcome .sum) (outcome .count) (saidWord (outcome .phase)) (outcome .change))
   sheet-reply none k = refl
   sheet-reply (some n) k = ap refusedBy (k n refl)
 
@@ -188,24 +190,25 @@ module _ (b : Book) (ls : List Line) (a : Agrees ls b) where
       ap (λ (w : Values). sheetVerdict (b .row) w day line numbers) (a .lines line .same)
       ∙ sheet-verdict-four (b .row) (bookValues line (b .entries)) day line (b .day) numbers (a .lines line .good .falls)
 
-  -- the phase after a sheet, by whether it met every average due
+  -- the phase that an outcome says, by whether the sheet met every average due
   phase-path : (day line : ℕ) (numbers : List ℤ)
-      → phaseWord (phaseHeld (sheetVerdict (b .row) (valuesOf (stationOf b ls) line) day line numbers)) ≡ phaseAfter (entryOf b day line numbers .met)
+      → saidWord (phaseSaid (sheetVerdict (b .row) (valuesOf (stationOf b ls) line) day line numbers)) ≡ entryPhase (entryOf b day line numbers)
   unfolding entryOf sheetVerdict
   phase-path day line numbers =
       let v = bookValues line (b .entries) in
-      ap (λ (w : Verdict). phaseWord (phaseHeld w)) (verdict-path day line numbers)
-      ∙ word (sheetVerdict (b .row) v day line numbers .met)
-      ∙ ap phaseAfter (met-is-met (limitsOf (b .row) line) v day (sheetSet (b .row) v day line numbers))
+      ap (λ (w : Verdict). saidWord (phaseSaid w)) (verdict-path day line numbers)
+      ∙ said (sheetVerdict (b .row) v day line numbers)
+      ∙ ap (λ (m : Bool). cond m openPhase checkDuePhase) (met-is-met (limitsOf (b .row) line) v day (sheetSet (b .row) v day line numbers))
     where
-      word : (m : Bool) → phaseWord (phaseCode (phaseAfter m)) ≡ phaseAfter m
-      word true = refl
-      word false = refl
+      said : (w : Verdict) → saidWord (phaseSaid w) ≡ cond (isMet w) openPhase checkDuePhase
+      said Met = refl
+      said (Adjusted change) = refl
+      said Shut = refl
 
   granted-same : (c : Call) → grantedOf (stationOf b ls) c ≡ grantedReply b c
   unfolding grantedOf grantedReply outcomeOf entryOf
   granted-same (sheetCall day line numbers) =
-      λ i. outcome (set-path day line numbers i .sum) (set-path day line numbers i .count) (phase-path day line numbers i) (verdict-path day line numbers i .change)
+      λ i. outcome (set-path day line numbers i .sum) (set-path day line numbers i .count) (phase-path day line numbers i) (changeOf (verdict-path day line numbers i))
   granted-same (repairCall day) = refl
   granted-same (marketCall day line scan asked basis) =
       ap (λ (c : Certificate). certificate (c .day) (c .intercept) (c .basis) (c .figure) (c .converted))
@@ -254,11 +257,14 @@ module _ (b : Book) (ls : List Line) (a : Agrees ls b) where
         day-ok (b .day) day
         (lineCheck (b .row) line ∷ sheetChecks (limitsOf (b .row) line) (bookValues line (b .entries) .intercept) (samples (b .row)) numbers) e
 
-    sheet-line : line < length ls
+    here : line < lineCount (b .row)
     unfolding bookNumber sheetNumbers
-    sheet-line =
+    here =
         let cs = sheetChecks (limitsOf (b .row) line) (bookValues line (b .entries) .intercept) (samples (b .row)) numbers in
-        omega (arith, line-ok (b .row) line (dayCheck (b .day) day) cs e, row-facts (b .row) .threeLines, a .three)
+        line-ok (b .row) line (dayCheck (b .day) day) cs e
+
+    sheet-line : line < length ls
+    sheet-line = omega (arith, here, row-facts (b .row) .threeLines, a .three)
 
     sheet-bounded : Bounded (samples (b .row)) (sheetSet (b .row) (bookValues line (b .entries)) day line numbers)
     unfolding bookNumber sheetNumbers sheetSet
@@ -278,15 +284,15 @@ module _ (b : Book) (ls : List Line) (a : Agrees ls b) where
     entry = entryOf b day line numbers
 
     -- the verdict meets as the entry says
-    met-path : sheetVerdict (b .row) (bookValues line (b .entries)) day line numbers .met ≡ entry .met
+    met-path : isMet (sheetVerdict (b .row) (bookValues line (b .entries)) day line numbers) ≡ entry .met
     unfolding entry entryOf sheetVerdict
     met-path = met-is-met (limitsOf (b .row) line) (bookValues line (b .entries)) day (sheetSet (b .row) (bookValues line (b .entries)) day line numbers)
 
     own : LineAgrees (samples (b .row)) day after (bookValues line (sheetEntry entry ∷ b .entries))
     unfolding after entry entryOf sheetVerdict
-    own = go (sheetVerdict (b .row) (bookValues line (b .entries)) day line numbers .met) refl
+    own = go (isMet (sheetVerdict (b .row) (bookValues line (b .entries)) day line numbers)) refl
       where
-        go : (m : Bool) → sheetVerdict (b .row) (bookValues line (b .entries)) day line numbers .met ≡ m
+        go : (m : Bool) → isMet (sheetVerdict (b .row) (bookValues line (b .entries)) day line numbers) ≡ m
             → LineAgrees (samples (b .row)) day after (bookValues line (sheetEntry entry ∷ b .entries))
         go true m =
             let v = bookValues line (b .entries) in
@@ -295,12 +301,13 @@ module _ (b : Book) (ls : List Line) (a : Agrees ls b) where
             subst⁻¹ (λ (w : Values). LineAgrees (samples (b .row)) day after w)
             (met-values line entry (b .entries) (eq-eqb line line refl) (sym met-path ∙ m))
             (after-met (samples (b .row)) (b .day) day (getD ls line freshLine) v (a .lines line) (sheet-day .0) (pastSet day set) refl
-            (set-sound (samples (b .row)) day set sheet-bounded (f .0)) (sheetVerdict (b .row) v day line numbers) m (f .1))
+            (set-sound (samples (b .row)) day set sheet-bounded f) (sheetVerdict (b .row) v day line numbers) m)
         go false m =
             let v = bookValues line (b .entries) in
             let set = sheetSet (b .row) v day line numbers in
             subst⁻¹ (λ (w : Values). LineAgrees (samples (b .row)) day after w)
-            (unmet-values line entry (b .entries) (eq-eqb line line refl) (sym met-path ∙ m))
+            (unmet-values line entry (b .entries) (eq-eqb line line refl) (sym met-path ∙ m)
+            ∙ ap (λ (p : LinePhase). record { intercept = entry .change +ℤ v .intercept; phase = p; past = [] }) (sym (adjustment-changes .told (b .row) line here v day set (sym met-path ∙ m))))
             (after-unmet (samples (b .row)) (b .day) day (getD ls line freshLine) v (a .lines line) (sheet-day .0) (pastSet day set)
             (sheetVerdict (b .row) v day line numbers) m (verdict-small (limitsOf (b .row) line) v day set (a .lines line .good .small)))
 

@@ -6,10 +6,10 @@ use mathlib.Core.Option.{some}
 use Prim.Native.Nat.{ℕ}
 use native.Mathlib.Omega.{arith}
 use lib.Dec.{eqb}
-use lib.IntN.{_+ℤ_}
-use Rattle.station_rules.specs.Lines.{LinePhase, newLine, openLine, checkDueLine}
+use lib.IntN.{ℤ, natAbs, _+ℤ_}
+use Rattle.station_rules.specs.Lines.{LinePhase, newLine, openLine, adjustedLine, shutLine}
 use Rattle.station_rules.specs.Held.{repairedPhase}
-use Rattle.station_rules.specs.Books.{SheetEntry, Entry, sheetEntry, repairEntry, sheetsOf, newestTouching, isMetSheet, newestUnmet, entrySet, bookIntercept, bookPhase, bookPast, bookValues}
+use Rattle.station_rules.specs.Books.{SheetEntry, Entry, sheetEntry, repairEntry, sheetsOf, newestTouching, isMetSheet, newestUnmet, newestChange, checkDueBy, entrySet, bookIntercept, bookPhase, bookPast, bookValues}
 
 module _ (line : ℕ) (e : SheetEntry) (es : List Entry) where
   -- another line's sheet changes nothing of the line
@@ -27,7 +27,7 @@ module _ (line : ℕ) (e : SheetEntry) (es : List Entry) where
   -- a sheet that didn't meet
   pub unmet-values : eqb (e .line) line ≡ true → e .met ≡ false
       → bookValues line (sheetEntry e ∷ es)
-      ≡ record { intercept = e .change +ℤ bookValues line es .intercept; phase = checkDueLine; past = [] }
+      ≡ record { intercept = e .change +ℤ bookValues line es .intercept; phase = checkDueBy (e .change); past = [] }
   unfolding bookValues bookIntercept bookPhase bookPast
   unmet-values h m = simp (h, m)
 
@@ -43,11 +43,19 @@ met-not-unmet line (sheetEntry e ∷ es) h = go (eqb (e .line) line) h (met-not-
     go false h ih = ih h
 met-not-unmet line (repairEntry d ∷ es) h = let q : _≡_ {A = ℕ} 0 1 = cc in absurd (omega arith)
 
-repaired-phase : (met unmet : Bool) → (met ≡ true → unmet ≡ false)
-    → cond unmet checkDueLine newLine ≡ repairedPhase (cond met openLine (cond unmet checkDueLine newLine))
-repaired-phase true unmet f = ap (λ (b : Bool). cond b checkDueLine newLine) (f refl)
-repaired-phase false true f = refl
-repaired-phase false false f = refl
+-- which of the two a check due line is stays
+repaired-due : (change : ℤ) → checkDueBy change ≡ repairedPhase (checkDueBy change)
+repaired-due change = go (eqb (natAbs change) 0)
+  where
+    go : (b : Bool) → cond b shutLine adjustedLine ≡ repairedPhase (cond b shutLine adjustedLine)
+    go true = refl
+    go false = refl
+
+repaired-phase : (met unmet : Bool) (change : ℤ) → (met ≡ true → unmet ≡ false)
+    → cond unmet (checkDueBy change) newLine ≡ repairedPhase (cond met openLine (cond unmet (checkDueBy change) newLine))
+repaired-phase true unmet change f = ap (λ (b : Bool). cond b (checkDueBy change) newLine) (f refl)
+repaired-phase false true change f = repaired-due change
+repaired-phase false false change f = refl
 
 -- a repair
 pub repair-values : (line d : ℕ) (es : List Entry)
@@ -56,4 +64,4 @@ pub repair-values : (line d : ℕ) (es : List Entry)
 unfolding bookValues bookIntercept bookPhase bookPast
 repair-values line d es =
     ap (λ (p : LinePhase). record { intercept = bookIntercept line es; phase = p; past = [] })
-    (repaired-phase (isMetSheet (newestTouching line es)) (newestUnmet (sheetsOf line es)) (met-not-unmet line es))
+    (repaired-phase (isMetSheet (newestTouching line es)) (newestUnmet (sheetsOf line es)) (newestChange (sheetsOf line es)) (met-not-unmet line es))

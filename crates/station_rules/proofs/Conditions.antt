@@ -1,24 +1,23 @@
 -- The book certifies a market test exactly when the market conditions hold, and they rest on a recent sheet that met.
 use mathlib.Core.Path.{_≡_, refl, sym, _∙_, ap}
-use mathlib.Core.Bool.{Bool, true, false, not, _||_, cond}
+use mathlib.Core.Bool.{Bool, true, false, not, _||_, cond, true≢false}
 use mathlib.Core.List.{List, [], _∷_}
 use mathlib.Core.Option.{Option, none, some}
 use Prim.Native.Nat.{ℕ, _+_, _≤_}
 use native.Mathlib.Omega.{arith}
 use lib.Dec.{T, eqb, leb, ltb, leb→le, ltb→lt, lt→ltb}
-use lib.IntN.{ℤ, pos, _+ℤ_}
+use lib.IntN.{ℤ, pos, natAbs, _+ℤ_}
 use lib.Signed.{leZ, _≤ℤ_, leZ-yes}
 use borrow.Author.Tests.{ltb-false, le-ltb}
 use Rattle.station_rules.specs.Rows.{lineCount}
 use Rattle.reading.specs.Reading.{readingOf, inRange}
 use Rattle.station_rules.specs.Readings.{scanServes, askedFloat}
-use Rattle.station_rules.specs.Markets as markets
-use Rattle.station_rules.specs.Markets.{basisOf, basisFrom, askedIntercept, otherClass, otherBasis, newestDay, within, tooHigh, correctedValue, marketChecks}
+use Rattle.station_rules.specs.Markets.{isNew, isAdjusted, isShut, basisOf, basisFrom, askedIntercept, otherClass, otherBasis, newestDay, within, tooHigh, correctedValue, marketChecks}
 use Rattle.station_rules.specs.Judging.{marketNumbers}
 use Rattle.station_rules.specs.Soundness.{daysFall}
-use Rattle.station_rules.specs.Lines.{LinePhase, newLine, openLine, checkDueLine}
+use Rattle.station_rules.specs.Lines.{LinePhase, newLine, openLine, adjustedLine, shutLine}
 use Rattle.station_rules.specs.Calls.{marketCall}
-use Rattle.station_rules.specs.Books.{Book, SheetEntry, Entry, sheetEntry, repairEntry, sheetsOf, newestTouching, isMetSheet, newestUnmet, bookIntercept, bookPhase, bookPast, bookValues, bookNumber}
+use Rattle.station_rules.specs.Books.{Book, SheetEntry, Entry, sheetEntry, repairEntry, sheetsOf, newestTouching, isMetSheet, newestUnmet, newestChange, bookIntercept, bookPhase, bookPast, bookValues, bookNumber}
 use Rattle.station_rules.specs.Demand3.{MarketConditions, RestsOn}
 use Rattle.station_rules.specs.declared.Scan.{Scan}
 use Rattle.station_rules.specs.declared.WheatClass.{WheatClass}
@@ -44,10 +43,27 @@ within-from low high z e =
 within-to : (low high : ℕ) (z : ℤ) → pos low ≤ℤ z → z ≤ℤ pos high → not (within low high z) ≡ false
 within-to low high z h k = not-true (within low high z) (and-i (leZ (pos low) z) (leZ z (pos high)) (h .le) (k .le))
 
-open-from : (p : LinePhase) → not (markets.isOpen p) ≡ false → p ≡ openLine
-open-from newLine e = let q : _≡_ {A = ℕ} 0 1 = cc in absurd (omega arith)
-open-from openLine e = refl
-open-from checkDueLine e = let q : _≡_ {A = ℕ} 0 1 = cc in absurd (omega arith)
+-- numbers 12, 25 and 26: the line is not new, not adjusted, not shut
+new-to : (p : LinePhase) → (p ≡ newLine → ⊥) → isNew p ≡ false
+new-to newLine f = absurd (f refl)
+new-to openLine f = refl
+new-to adjustedLine f = refl
+new-to shutLine f = refl
+
+adjusted-to : (p : LinePhase) → (p ≡ adjustedLine → ⊥) → isAdjusted p ≡ false
+adjusted-to newLine f = refl
+adjusted-to openLine f = refl
+adjusted-to adjustedLine f = absurd (f refl)
+adjusted-to shutLine f = refl
+
+shut-to : (p : LinePhase) → (p ≡ shutLine → ⊥) → isShut p ≡ false
+shut-to newLine f = refl
+shut-to openLine f = refl
+shut-to adjustedLine f = refl
+shut-to shutLine f = absurd (f refl)
+
+phase-from : (test : LinePhase → Bool) (p q : LinePhase) → test p ≡ false → test q ≡ true → p ≡ q → ⊥
+phase-from test p q e t h = true≢false (sym t ∙ sym (ap test h) ∙ e)
 
 -- number 23: gluten is not asked with another class
 class-from : (asked : Asked) → otherClass asked ≡ false → asked ≡ Gluten Other → ⊥
@@ -89,6 +105,7 @@ module _ (b : Book) (day line : ℕ) (scan : Scan) (asked : Asked) (basis : Basi
       let f = none-applies (marketNumbers (b .row) (b .day) (bookValues line (b .entries)) day line scan asked basis) e in
       let d = or-none (ltb day (b .day)) (ltb 99999 day) (f .0) in
       let g = f .1 .1 .1 .1 in
+      let k = g .1 .1 .1 .1 in
       let i = within-from 0 5000 (basisOf (basisFrom (b .row) asked) basis) (g .1 .1 .0) in
       let h = within-from 0 10000 (pos (readingOf (askedFloat scan asked line)) +ℤ askedIntercept asked (bookIntercept line (b .entries))) (g .1 .1 .1 .0) in
       record {
@@ -100,9 +117,11 @@ module _ (b : Book) (day line : ℕ) (scan : Scan) (asked : Asked) (basis : Basi
         number9 = not-false-T (inRange (askedFloat scan asked line)) (g .1 .0);
         number10 = i;
         number11 = h;
-        number12 = open-from (bookPhase line (b .entries)) (g .1 .1 .1 .1 .0);
-        number13 = ltb-false (newestDay (bookPast line (b .entries)) + 7) day (g .1 .1 .1 .1 .1 .0);
-        number14 = ltb-false _ _ (g .1 .1 .1 .1 .1 .1 .0);
+        number12 = phase-from isNew (bookPhase line (b .entries)) newLine (k .0) refl;
+        number25 = phase-from isAdjusted (bookPhase line (b .entries)) adjustedLine (k .1 .0) refl;
+        number26 = phase-from isShut (bookPhase line (b .entries)) shutLine (k .1 .1 .0) refl;
+        number13 = ltb-false (newestDay (bookPast line (b .entries)) + 7) day (k .1 .1 .1 .0);
+        number14 = ltb-false _ _ (k .1 .1 .1 .1 .0);
       }
 
   -- the conditions hold: no number applies
@@ -126,12 +145,18 @@ module _ (b : Book) (day line : ℕ) (scan : Scan) (asked : Asked) (basis : Basi
                     (
                       within-to 0 10000 (pos (readingOf (askedFloat scan asked line)) +ℤ askedIntercept asked (bookIntercept line (b .entries))) (c .number11 .0) (c .number11 .1),
                       (
-                        ap (λ (p : LinePhase). not (markets.isOpen p)) (c .number12),
+                        new-to (bookPhase line (b .entries)) (c .number12),
                         (
-                          le-ltb (newestDay (bookPast line (b .entries)) + 7) day (c .number13),
+                          adjusted-to (bookPhase line (b .entries)) (c .number25),
                           (
-                            le-ltb _ _ (c .number14),
-                            tt,
+                            shut-to (bookPhase line (b .entries)) (c .number26),
+                            (
+                              le-ltb (newestDay (bookPast line (b .entries)) + 7) day (c .number13),
+                              (
+                                le-ltb _ _ (c .number14),
+                                tt,
+                              ),
+                            ),
                           ),
                         ),
                       ),
@@ -146,10 +171,13 @@ module _ (b : Book) (day line : ℕ) (scan : Scan) (asked : Asked) (basis : Basi
 
 -- ---- what an open line rests on
 
-open-met : (m u : Bool) → cond m openLine (cond u checkDueLine newLine) ≡ openLine → m ≡ true
-open-met true u e = refl
-open-met false true e = let q : _≡_ {A = ℕ} 0 1 = cc in absurd (omega arith)
-open-met false false e = let q : _≡_ {A = ℕ} 0 1 = cc in absurd (omega arith)
+-- a line that is neither new nor adjusted nor shut has met
+open-met : (m u z : Bool) → let p = cond m openLine (cond u (cond z shutLine adjustedLine) newLine) in
+    (p ≡ newLine → ⊥) → (p ≡ adjustedLine → ⊥) → (p ≡ shutLine → ⊥) → m ≡ true
+open-met true u z f g h = refl
+open-met false true true f g h = absurd (h refl)
+open-met false true false f g h = absurd (g refl)
+open-met false false z f g h = absurd (f refl)
 
 met-entry : (o : Option Entry) → isMetSheet o ≡ true → (e : SheetEntry) × (o ≡ some (sheetEntry e)) × (e .met ≡ true)
 met-entry none h = let q : _≡_ {A = ℕ} 0 1 = cc in absurd (omega arith)
@@ -184,7 +212,8 @@ pub rests-on : (b : Book) (day line : ℕ) (scan : Scan) (asked : Asked) (basis 
 unfolding bookPhase
 rests-on b day line scan asked basis falls c =
     let f = met-entry (newestTouching line (b .entries))
-    (open-met (isMetSheet (newestTouching line (b .entries))) (newestUnmet (sheetsOf line (b .entries))) (c .number12)) in
+    (open-met (isMetSheet (newestTouching line (b .entries))) (newestUnmet (sheetsOf line (b .entries))) (eqb (natAbs (newestChange (sheetsOf line (b .entries)))) 0)
+    (c .number12) (c .number25) (c .number26)) in
     let n : newestDay (bookPast line (b .entries)) ≡ f .0 .day = newest-past line (b .entries) (f .0) (f .1) (f .2) in
     record {
       entry = f .0;

@@ -177,15 +177,21 @@ module _ (s : Station) (day line : ℕ) (scan : Scan) (class : WheatClass) (basi
                         λ e. (
                           (λ e. absurd (basis-right class basis standard e)),
                           λ e.
-                              -- 11, 12, 13, 14
+                              -- 11, 12, 25, 26, 13, 14
                               (
                                 (λ e. tt),
                                 λ value. (
                                   (λ e. tt),
                                   λ e. (
                                     (λ e. tt),
-                                    λ e.
-                                        ((λ e. absurd (value-right class basis (correctedValue (valuesOf s line) scan (Gluten class) line) standard value e)), λ e. tt),
+                                    λ e. (
+                                      (λ e. tt),
+                                      λ e. (
+                                        (λ e. tt),
+                                        λ e.
+                                            ((λ e. absurd (value-right class basis (correctedValue (valuesOf s line) scan (Gluten class) line) standard value e)), λ e. tt),
+                                      ),
+                                    ),
                                   ),
                                 ),
                               ),

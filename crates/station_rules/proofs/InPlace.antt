@@ -14,8 +14,8 @@ use Rattle.whole.proofs.Spelled.{elements, spelled}
 use Rattle.whole.proofs.Tests.{and-l, of-true}
 use Rattle.station_rules.specs.Rows.{rowExists, samples, lineCount, limitsOf}
 use Rattle.station_rules.specs.Refusals.{firstNumber, refusalOf}
-use Rattle.station_rules.specs.Lines.{LinePhase, newLine, openLine, checkDueLine, Values, pastSet}
-use Rattle.station_rules.specs.Held.{Station, phaseWord, opened, closed, lineAfter, repairedLine}
+use Rattle.station_rules.specs.Lines.{LinePhase, newLine, openLine, adjustedLine, shutLine, Values, pastSet}
+use Rattle.station_rules.specs.Held.{Station, phaseWord, opened, lineAfter, repairedLine}
 use Rattle.station_rules.specs.Soundness.{soundLine, sound, soundCheck}
 use Rattle.station_rules.specs.Sheets.{sheetChecks}
 use Rattle.station_rules.specs.Judging.{dayCheck, lineCheck, repairNumbers, sheetNumbers, marketNumbers, sheetSet, sheetVerdict}
@@ -24,10 +24,11 @@ use Rattle.station_rules.specs.Stations.{Opening, freshStation, openOf, 
 use Rattle.station_rules.specs.Calls.{Call, sheetCall, repairCall, marketCall, stationAfter, stationReply, replies, stationAfterAll}
 use Rattle.whole.specs.Places.{place, natural}
 use Rattle.station_rules.specs.Places.{lineIn, linePlaces, rowIn, stationIn}
-use Rattle.station_rules.specs.InPlace.{joinedPlaces, openedPlaces, closedPlaces, sheetLine, repairedPlaces, withDay, withLine, withRepaired, openLeft, openIn, sheetPlaces, sheetLeft, sheetIn, repairPlaces, repairLeft, repairIn, marketPlaces, marketLeft, marketIn, placesAfter, replyIn, HoldsStation, AsHeld}
+use Rattle.station_rules.specs.InPlace.{joinedPlaces, openedPlaces, sheetLine, repairedPlaces, withDay, withLine, withRepaired, openLeft, openIn, sheetPlaces, sheetLeft, sheetIn, repairPlaces, repairLeft, repairIn, marketPlaces, marketLeft, marketIn, placesAfter, replyIn, HoldsStation, AsHeld}
 use Rattle.station_rules.specs.declared.PastSet.{PastSet}
 use Rattle.station_rules.specs.declared.Line.{Line}
 use Rattle.station_rules.specs.declared.Verdict.{Verdict}
+use Rattle.station_rules.specs.declared.Verdict.the-variants.{Met, Adjusted, Shut}
 use Rattle.station_rules.specs.declared.OpenAnswer.{OpenAnswer}
 use Rattle.station_rules.specs.declared.Certificate.{Certificate}
 use Rattle.station_rules.specs.declared.Scan.{Scan}
@@ -68,17 +69,14 @@ module _ (line : List ℤ) (full : length line ≡ 15) where
   unfolding lineIn
   opened-line newLine p = joined-line p
   opened-line openLine p = joined-line p
-  opened-line checkDueLine p = refl
+  opened-line adjustedLine p = refl
+  opened-line shutLine p = refl
 
   pub sheet-line : (p : PastSet) (v : Verdict) → lineIn (sheetLine line p v) ≡ lineAfter (lineIn line) p v
   unfolding sheetLine lineIn
-  sheet-line p v = go (v .met)
-    where
-      go : (met : Bool)
-          → lineIn (cond met (openedPlaces (phaseWord (lineIn line .phase)) line p) (closedPlaces line (v .change)))
-          ≡ cond met (opened (phaseWord (lineIn line .phase)) (lineIn line) p) (closed (lineIn line) (v .change))
-      go true = opened-line (phaseWord (lineIn line .phase)) p
-      go false = refl
+  sheet-line p Met = opened-line (phaseWord (lineIn line .phase)) p
+  sheet-line p (Adjusted change) = refl
+  sheet-line p Shut = refl
 
   joined-full : (p : PastSet) → length (joinedPlaces line p) ≡ 15
   unfolding elements
@@ -87,15 +85,14 @@ module _ (line : List ℤ) (full : length line ≡ 15) where
   opened-full : (phase : LinePhase) (p : PastSet) → length (openedPlaces phase line p) ≡ 15
   opened-full newLine p = joined-full p
   opened-full openLine p = joined-full p
-  opened-full checkDueLine p = refl
+  opened-full adjustedLine p = refl
+  opened-full shutLine p = refl
 
   pub sheet-full : (p : PastSet) (v : Verdict) → length (sheetLine line p v) ≡ 15
   unfolding sheetLine
-  sheet-full p v = go (v .met)
-    where
-      go : (met : Bool) → length (cond met (openedPlaces (phaseWord (lineIn line .phase)) line p) (closedPlaces line (v .change))) ≡ 15
-      go true = opened-full (phaseWord (lineIn line .phase)) p
-      go false = refl
+  sheet-full p Met = opened-full (phaseWord (lineIn line .phase)) p
+  sheet-full p (Adjusted change) = refl
+  sheet-full p Shut = refl
 
 pub repaired-line : (line : List ℤ) → lineIn (repairedPlaces line) ≡ repairedLine (lineIn line)
 unfolding repairedPlaces lineIn

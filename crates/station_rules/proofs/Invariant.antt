@@ -1,17 +1,17 @@
 -- The invariant between a station's line and a line's values in the book, and how a sheet and a repair keep it.
 use mathlib.Core.Path.{_≡_, refl, sym, _∙_, ap, subst⁻¹}
-use mathlib.Core.Bool.{true, false, _&&_}
+use mathlib.Core.Bool.{true, false, _&&_, true≢false}
 use mathlib.Core.List.{List, [], _∷_}
 use Prim.Native.Nat.{ℕ, suc, _≤_, min}
 use native.Mathlib.Omega.{arith}
 use lib.Dec.{T, leb, le→leb}
 use lib.ListN.{length, take, length-take}
 use lib.Seq.{length-take-le}
-use lib.IntN.{pos, natAbs, _+ℤ_, +ℤ-comm, +ℤ-idl}
+use lib.IntN.{ℤ, pos, natAbs, _+ℤ_, +ℤ-comm, +ℤ-idl}
 use lib.Ieee.Fits.{eq→eqb}
 use Rattle.whole.specs.Lists.{all}
-use Rattle.station_rules.specs.Lines.{LinePhase, newLine, openLine, checkDueLine, Values, soundIntercept}
-use Rattle.station_rules.specs.Held.{phaseExists, phaseWord, freshLine, lineValues, joined, onlyPast, opened, lineAfter, repairedPhase, repairedLine}
+use Rattle.station_rules.specs.Lines.{LinePhase, newLine, openLine, adjustedLine, shutLine, Values, changeOf, phaseAfter, isMet, soundIntercept}
+use Rattle.station_rules.specs.Held.{phaseExists, phaseWord, phaseCode, freshLine, lineValues, joined, onlyPast, opened, closed, lineAfter, repairedPhase, repairedLine}
 use Rattle.station_rules.specs.Soundness.{daysFall, soundSet, heldIn, soundHeld, soundLine}
 use Rattle.station_rules.specs.declared.PastSet.{PastSet}
 use Rattle.station_rules.specs.declared.Line.{Line}
@@ -20,12 +20,14 @@ use Rattle.whole.proofs.Elements.{all-take, take-min}
 use Rattle.station_rules.proofs.Phases.{repaired-word, repaired-known}
 use Rattle.station_rules.proofs.NewestFour.{newestFour, falls-later, falls-take}
 use Rattle.station_rules.specs.declared.Verdict.{Verdict}
+use Rattle.station_rules.specs.declared.Verdict.the-variants.{Met, Adjusted, Shut}
 
 -- an open line has past sets and any other none
 abbrev pub PastFits : LinePhase → List PastSet → Type 0
 PastFits newLine past = past ≡ []
 PastFits openLine past = 1 ≤ length past
-PastFits checkDueLine past = past ≡ []
+PastFits adjustedLine past = past ≡ []
+PastFits shutLine past = past ≡ []
 
 -- sound values of a line: for a row of n samples, on a day
 pub record Good (n day : ℕ) (v : Values) : Type 0 where
@@ -58,7 +60,8 @@ held-is n d l v a =
 held-sound : (phase : LinePhase) (held : ℕ) (past : List PastSet) → held ≡ min 4 (length past) → PastFits phase past → T (heldIn phase held)
 held-sound newLine held past e f = eq→eqb {a = held} {b = 0} (omega (arith, ap length f))
 held-sound openLine held past e f = and-i (leb 1 held) (leb held 4) (le→leb 1 held (omega arith)) (le→leb held 4 (omega arith))
-held-sound checkDueLine held past e f = eq→eqb {a = held} {b = 0} (omega (arith, ap length f))
+held-sound adjustedLine held past e f = eq→eqb {a = held} {b = 0} (omega (arith, ap length f))
+held-sound shutLine held past e f = eq→eqb {a = held} {b = 0} (omega (arith, ap length f))
 
 pub line-sound : (n d : ℕ) (l : Line) (v : Values) → LineAgrees n d l v → T (soundLine n d l)
 unfolding soundLine
@@ -144,31 +147,41 @@ module _ (n d day : ℕ) (l : Line) (v : Values) (a : LineAgrees n d l v) (later
         → LineAgrees n day (opened phase l p) (record { intercept = v .intercept; phase = openLine; past = p ∷ v .past })
     opened-agrees newLine e = joined-agrees
     opened-agrees openLine e = joined-agrees
-    opened-agrees checkDueLine e = only-agrees (subst⁻¹ (λ (ph : LinePhase). PastFits ph (v .past)) e (a .good .fits))
+    opened-agrees adjustedLine e = only-agrees (subst⁻¹ (λ (ph : LinePhase). PastFits ph (v .past)) e (a .good .fits))
+    opened-agrees shutLine e = only-agrees (subst⁻¹ (λ (ph : LinePhase). PastFits ph (v .past)) e (a .good .fits))
 
     -- the line after a set that met
-    pub after-met : (verdict : Verdict) → verdict .met ≡ true → verdict .change ≡ pos 0
-        → LineAgrees n day (lineAfter l p verdict) (record { intercept = verdict .change +ℤ v .intercept; phase = openLine; past = p ∷ v .past })
-    after-met verdict m c =
-        rw (m, c, +ℤ-idl (v .intercept)) (opened-agrees (phaseWord (l .phase)) (ap (λ (w : Values). w .phase) (a .same)))
+    pub after-met : (verdict : Verdict) → isMet verdict ≡ true
+        → LineAgrees n day (lineAfter l p verdict) (record { intercept = changeOf verdict +ℤ v .intercept; phase = openLine; past = p ∷ v .past })
+    after-met Met m = rw (+ℤ-idl (v .intercept)) (opened-agrees (phaseWord (l .phase)) (ap (λ (w : Values). w .phase) (a .same)))
+    after-met (Adjusted change) m = absurd (true≢false (sym m))
+    after-met Shut m = absurd (true≢false (sym m))
 
-  -- the line after a set that didn't meet
-  pub after-unmet : (p : PastSet) (verdict : Verdict) → verdict .met ≡ false → natAbs (v .intercept +ℤ verdict .change) ≤ 1000
-      → LineAgrees n day (lineAfter l p verdict) (record { intercept = verdict .change +ℤ v .intercept; phase = checkDueLine; past = [] })
-  after-unmet p verdict m h =
-      rw (m, +ℤ-comm (verdict .change) (v .intercept))
+  -- the line after a set that didn't meet, in a phase that holds no set
+  closed-agrees : (phase : LinePhase) (change : ℤ) → phaseWord (phaseCode phase) ≡ phase → T (phaseExists (phaseCode phase)) → PastFits phase []
+      → natAbs (v .intercept +ℤ change) ≤ 1000 → LineAgrees n day (closed l phase change) (record { intercept = change +ℤ v .intercept; phase = phase; past = [] })
+  closed-agrees phase change word known fits h =
+      rw (+ℤ-comm change (v .intercept))
       (record {
-        same = λ i. record { intercept = a .same i .intercept +ℤ verdict .change; phase = checkDueLine; past = [] };
-        known = tt;
+        same = λ i. record { intercept = a .same i .intercept +ℤ change; phase = word i; past = [] };
+        known = known;
         room = omega arith;
         full = refl;
-        good = record { small = h; falls = tt; sets = tt; fits = refl };
+        good = record { small = h; falls = tt; sets = tt; fits = fits };
       })
+
+  -- the line after a set that didn't meet
+  pub after-unmet : (p : PastSet) (verdict : Verdict) → isMet verdict ≡ false → natAbs (v .intercept +ℤ changeOf verdict) ≤ 1000
+      → LineAgrees n day (lineAfter l p verdict) (record { intercept = changeOf verdict +ℤ v .intercept; phase = phaseAfter verdict; past = [] })
+  after-unmet p Met m h = absurd (true≢false m)
+  after-unmet p (Adjusted change) m h = closed-agrees adjustedLine change refl tt refl h
+  after-unmet p Shut m h = closed-agrees shutLine (pos 0) refl tt refl h
 
   repaired-fits : (phase : LinePhase) → PastFits (repairedPhase phase) []
   repaired-fits newLine = refl
   repaired-fits openLine = refl
-  repaired-fits checkDueLine = refl
+  repaired-fits adjustedLine = refl
+  repaired-fits shutLine = refl
 
   -- the line after a repair
   pub after-repair : LineAgrees n day (repairedLine l) (record { intercept = v .intercept; phase = repairedPhase (v .phase); past = [] })

@@ -7,6 +7,7 @@ pub mod Phases
 pub mod NewestFour
 pub mod BookValues
 pub mod Verdicts
+pub mod Adjustments
 pub mod Invariant
 pub mod Agreement
 pub mod Distance
@@ -17,4 +18,5 @@ pub mod Demand3
 pub mod Figures
 pub mod Gluten
 pub mod Order
+pub mod Former
 pub mod Cases

@@ -10,7 +10,7 @@ use lib.IntN.{ℤ}
 use lib.ListN.{take}
 use borrow.Author.Tests.{leb-false, lt-leb}
 use Rattle.station_rules.specs.Rows.{limitsOf}
-use Rattle.station_rules.specs.Lines.{LinePhase, newLine, openLine, checkDueLine, Values, validOn, averagesDue, testsBy, testsDue, verdictOf, firstExceeded, judged, shut}
+use Rattle.station_rules.specs.Lines.{LinePhase, newLine, openLine, adjustedLine, shutLine, Values, validOn, averagesDue, testsBy, testsDue, verdictOf, firstExceeded, judged}
 use Rattle.station_rules.specs.Markets.{marketChecks, certificateOf, newestDay, correctedValue}
 use Rattle.station_rules.specs.Judging.{sheetNumbers, marketNumbers, sheetSet, sheetVerdict}
 use Rattle.station_rules.specs.Soundness.{daysFall}
@@ -20,6 +20,7 @@ use Rattle.station_rules.specs.declared.Asked.{Asked}
 use Rattle.station_rules.specs.declared.Basis.{Basis}
 use Rattle.whole.proofs.Tests.{and-l, and-r, and-i}
 use Rattle.station_rules.specs.declared.Test.{Test}
+use Rattle.station_rules.specs.declared.Verdict.the-variants.{Shut}
 use Rattle.station_rules.specs.declared.Set.{Set}
 use Rattle.station_rules.specs.declared.Limits.{Limits}
 
@@ -92,7 +93,8 @@ tests-take : (limits : Limits) (phase : LinePhase) (set : Set) (valid : List Pas
 unfolding testsBy
 tests-take limits newLine set valid = averages-take limits set valid
 tests-take limits openLine set valid = averages-take limits set valid
-tests-take limits checkDueLine set valid = refl
+tests-take limits adjustedLine set valid = refl
+tests-take limits shutLine set valid = refl
 
 module _ (limits : Limits) (v : Values) (d day : ℕ) (set : Set) (falls : T (daysFall d (v .past))) where
   tests-four : testsDue limits (newestFour v) day set ≡ testsDue limits v day set
@@ -100,7 +102,7 @@ module _ (limits : Limits) (v : Values) (d day : ℕ) (set : Set) (falls : T (da
 
   pub verdict-four : verdictOf limits (newestFour v) day set ≡ verdictOf limits v day set
   unfolding verdictOf
-  verdict-four = ap (λ (ts : List Test). cond (eqb (set .count) 0) shut (judged (v .intercept) (firstExceeded ts))) tests-four
+  verdict-four = ap (λ (ts : List Test). cond (eqb (set .count) 0) Shut (judged (v .intercept) (firstExceeded ts))) tests-four
 
 newest-take : (past : List PastSet) → newestDay (take 4 past) ≡ newestDay past
 newest-take [] = refl

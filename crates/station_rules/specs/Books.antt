@@ -5,12 +5,12 @@ use mathlib.Core.Bool.{Bool, true, false, not, _&&_, cond}
 use mathlib.Core.List.{List, [], _∷_, map}
 use mathlib.Core.Option.{Option, none, some}
 use lib.Dec.{eqb}
-use lib.IntN.{ℤ}
+use lib.IntN.{ℤ, pos, natAbs}
 use Rattle.whole.specs.Lists.{total}
 use Rattle.station_rules.specs.Lists.{upTo}
 use Rattle.station_rules.specs.Rows.{limitsOf}
 use Rattle.station_rules.specs.Refusals.{firstNumber}
-use Rattle.station_rules.specs.Lines.{LinePhase, newLine, openLine, checkDueLine, Values, metEvery, phaseAfter}
+use Rattle.station_rules.specs.Lines.{LinePhase, newLine, openLine, adjustedLine, shutLine, Phase, openPhase, checkDuePhase, Values, changeOf, metEvery}
 use Rattle.station_rules.specs.Markets.{certificateOf}
 use Rattle.station_rules.specs.Judging.{sheetNumbers, marketNumbers, repairNumbers, sheetSet, sheetVerdict}
 use Rattle.station_rules.specs.Replies.{Reply, refusedBy, outcome, repaired, certificate}
@@ -71,6 +71,15 @@ abbrev pub newestUnmet : List SheetEntry → Bool
 newestUnmet [] = false
 newestUnmet (e ∷ older) = not (e .met)
 
+-- the newest sheet's change, asked only where there is one
+abbrev pub newestChange : List SheetEntry → ℤ
+newestChange [] = pos 0
+newestChange (e ∷ older) = e .change
+
+-- a check due line's phase by that change, which is 0 just when the sheet shut the line
+abbrev pub checkDueBy : ℤ → LinePhase
+checkDueBy change = cond (eqb (natAbs change) 0) shutLine adjustedLine
+
 abbrev pub entrySet : SheetEntry → PastSet
 entrySet e = record { day = e .day; sum = e .sum; count = e .count }
 
@@ -81,7 +90,9 @@ module _ (line : ℕ) (entries : List Entry) where
 
   -- it is open if the newest sheet or repair touching it is a sheet that met, check due if its newest sheet didn't meet, else new
   unfoldable pub bookPhase : LinePhase
-  bookPhase = cond (isMetSheet (newestTouching line entries)) openLine (cond (newestUnmet (sheetsOf line entries)) checkDueLine newLine)
+  bookPhase =
+      let sheets = sheetsOf line entries in
+      cond (isMetSheet (newestTouching line entries)) openLine (cond (newestUnmet sheets) (checkDueBy (newestChange sheets)) newLine)
 
   -- its past sets are its sheets later than its last repair and its last sheet that didn't meet
   unfoldable pub bookPast : List PastSet
@@ -110,9 +121,13 @@ entryOf b day line numbers =
       line = line;
       sum = set .sum;
       count = set .count;
-      change = sheetVerdict (b .row) v day line numbers .change;
+      change = changeOf (sheetVerdict (b .row) v day line numbers);
       met = metEvery (limitsOf (b .row) line) v day set;
     }
+
+-- the phase that its outcome says: open if it met every average due, else check due
+abbrev pub entryPhase : SheetEntry → Phase
+entryPhase e = cond (e .met) openPhase checkDuePhase
 
 -- the book after an accepted call: its day, and a sheet's or repair's entry
 unfoldable pub accepted : Book → Call → Book
@@ -125,7 +140,7 @@ accepted b (marketCall day line scan asked basis) = record { row = b .row; day =
 unfoldable pub grantedReply : Book → Call → Reply
 grantedReply b (sheetCall day line numbers) =
     let e = entryOf b day line numbers in
-    outcome (e .sum) (e .count) (phaseAfter (e .met)) (e .change)
+    outcome (e .sum) (e .count) (entryPhase e) (e .change)
 grantedReply b (repairCall day) = repaired
 grantedReply b (marketCall day line scan asked basis) =
     let c = certificateOf (b .row) (bookValues line (b .entries)) line scan asked basis in

@@ -1,5 +1,5 @@
--- What a call of the cases shows, how the station's cases are made, "Misreadings of the handbook" and the cases of "Wet gluten". The cases marked by a star are
--- in the crate `starred`.
+-- What a call of the cases shows, how the station's cases are made, "Misreadings of the handbook", the place of 25 and 26, and the cases of "Wet gluten". The cases marked by a star
+-- and those of a line's phase are in the crate `starred`.
 use mathlib.Core.Path.{_≡_}
 use mathlib.Core.List.{List, [], _∷_, _++_, map}
 use Prim.Native.Nat.{ℕ, _*_}
@@ -8,7 +8,7 @@ use lib.IntN.{ℤ, pos, negsuc, _+ℤ_}
 use lib.Ieee.{ofBits, binary32}
 use Rattle.reading.specs.Reading.{unit, Said, hundredths, answerOf, saidBy}
 use Rattle.station_rules.specs.Sheets.{Sample, numbersOf}
-use Rattle.station_rules.specs.Lines.{LinePhase, newLine, openLine, checkDueLine}
+use Rattle.station_rules.specs.Lines.{LinePhase, newLine, openLine, adjustedLine, shutLine, openPhase}
 use Rattle.station_rules.specs.Held.{phaseCode, noSets, freshLine}
 use Rattle.station_rules.specs.Stations.{freshStation, lineOf, sheetOf, marketOf}
 use Rattle.station_rules.specs.Replies.{Reply, refusedBy, outcome, certificate, sheetReply, marketReply}
@@ -63,11 +63,15 @@ off d = sample (pos 1000) (pos 1000 +ℤ d) (pos 1000) (negsuc 0)
 abbrev pub again : ℤ → Sample → Sample
 again r s = record { baseline = s .baseline; first = s .first; second = s .second; third = s .third; againFirst = r; againSecond = r }
 
--- a sheet on day 2, on a line with a phase and past S
-abbrev pub sheetOn : LinePhase → List ℤ → List Sample → Seen
-sheetOn phase past ss =
-    let r = sheetOf (stationWith phase past) 2 0 (numbersOf ss) in
+-- a sheet on day 2 of a station's line 0
+abbrev pub sheetIn : Station → List Sample → Seen
+sheetIn s ss =
+    let r = sheetOf s 2 0 (numbersOf ss) in
     sheet (sheetReply (r .answer)) (lineOf (r .station) 0 .intercept)
+
+-- on a line with a phase and past S
+abbrev pub sheetOn : LinePhase → List ℤ → List Sample → Seen
+sheetOn phase past ss = sheetIn (stationWith phase past) ss
 
 -- one sample of baseline 1300 with these results, and five that don't deviate
 abbrev pub results : (first second third : ℤ) → Seen
@@ -82,9 +86,13 @@ abbrev pub twoDeviations : (first second : Sample → Sample) → Seen
 twoDeviations first second =
     sheetOn newLine [] (first (sample (pos 1000) (pos 1041) (pos 1041) (negsuc 0)) ∷ second (off (negsuc 19)) ∷ replicate 4 (off (pos 0)))
 
--- a wheat scan on day 2, dry; on an open line of intercept 0 h is the float's reading
+-- a wheat scan on a day of a station's line 0, dry
+abbrev pub dryFrom : Station → (day bits : ℕ) → Seen
+dryFrom s day bits = market (marketReply (marketOf s day 0 (Scan.Wheat (ofBits binary32 bits)) Asked.LineFigure Basis.Dry .answer))
+
+-- on day 2; on an open line of intercept 0 h is the float's reading
 abbrev pub dryOn : LinePhase → List ℤ → (bits : ℕ) → Seen
-dryOn phase past bits = market (marketReply (marketOf (stationWith phase past) 2 0 (Scan.Wheat (ofBits binary32 bits)) Asked.LineFigure Basis.Dry .answer))
+dryOn phase past bits = dryFrom (stationWith phase past) 2 bits
 
 -- a wheat scan with gluten, by the patterns of its two floats
 abbrev pub wheatGluten : (protein gluten : ℕ) → Scan
@@ -110,10 +118,21 @@ misreadings =
       gives =
           sheetOn openLine (pos 70 ∷ [])
           (again (pos 1100) (sample (pos 1000) (pos 1100) (pos 1100) (negsuc 0)) ∷ map off (pos 17 ∷ pos 17 ∷ pos 17 ∷ pos 16 ∷ pos 16 ∷ []));
-      says = sheet (outcome (pos 83) 10 openLine (pos 0)) (pos 0);
+      says = sheet (outcome (pos 83) 10 openPhase (pos 0)) (pos 0);
     }
     -- an adjusted line doesn't test before its check
-    ∷ record { gives = dryOn checkDueLine [] 0x4158_0000; says = market (refusedBy 12) }
+    ∷ record { gives = dryOn adjustedLine [] 0x4158_0000; says = market (refusedBy 25) }
+    ∷ []
+
+-- a line that is adjusted (25) or shut (26); 11 comes before, 13 and 14 after: intercept −10 and reading 5; day 30; 99.99 percent, dry above 100
+unfoldable pub phaseOrder : List Case
+phaseOrder =
+    record { gives = dryFrom (stationAt (negsuc 9) adjustedLine []) 2 0x3d4c_cccd; says = market (refusedBy 11) }
+    ∷ record { gives = dryFrom (stationAt (negsuc 9) shutLine []) 2 0x3d4c_cccd; says = market (refusedBy 11) }
+    ∷ record { gives = dryFrom (stationWith adjustedLine []) 30 0x4158_a3d7; says = market (refusedBy 25) }
+    ∷ record { gives = dryFrom (stationWith shutLine []) 30 0x4158_a3d7; says = market (refusedBy 26) }
+    ∷ record { gives = dryFrom (stationWith adjustedLine []) 2 0x42c7_fae1; says = market (refusedBy 25) }
+    ∷ record { gives = dryFrom (stationWith shutLine []) 2 0x42c7_fae1; says = market (refusedBy 26) }
     ∷ []
 
 -- wet gluten
@@ -151,9 +170,10 @@ glutenCases =
     ∷ record { gives = glutenOn (freshStation 0) 1 (wheatGluten 0x4158_a3d7 0x41f0_0000) HardRedWinter Standard; says = market (refusedBy 3) }
     ∷ record { gives = glutenOn (freshStation 1) 0 (wheatGluten 0x4158_a3d7 0x41f0_0000) HardRedWinter Standard; says = market (refusedBy 8) }
     ∷ record { gives = glutenOn (freshStation 1) 2 (Scan.Corn (record { protein = ofBits binary32 0x41f0_0000; oil = ofBits binary32 0x41f0_0000; starch = ofBits binary32 0x41f0_0000 })) Other Dry; says = market (refusedBy 8) }
-    -- the protein line's permission: new and check due are 12
+    -- the protein line's permission: new is 12, adjusted 25, shut 26
     ∷ record { gives = glutenOn (freshStation 0) 0 (wheatGluten 0x4158_a3d7 0x41f0_0000) HardRedWinter Standard; says = market (refusedBy 12) }
-    ∷ record { gives = glutenOn (stationAt (pos 0) checkDueLine []) 0 (wheatGluten 0x4158_a3d7 0x41f0_0000) HardRedSpring Standard; says = market (refusedBy 12) }
+    ∷ record { gives = glutenOn (stationAt (pos 0) adjustedLine []) 0 (wheatGluten 0x4158_a3d7 0x41f0_0000) HardRedSpring Standard; says = market (refusedBy 25) }
+    ∷ record { gives = glutenOn (stationAt (pos 0) shutLine []) 0 (wheatGluten 0x4158_a3d7 0x41f0_0000) HardRedSpring Standard; says = market (refusedBy 26) }
     -- without gluten asked its float is not looked at: 13.54 dry
     ∷ record { gives = market (marketReply (marketOf (stationWith openLine (pos 0 ∷ [])) 2 0 (wheatGluten 0x4158_a3d7 0x7fc0_0000) Asked.LineFigure Dry .answer)); says = market (certificate 1 (pos 0) (pos 0) 135 154) }
     ∷ []

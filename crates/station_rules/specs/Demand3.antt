@@ -13,7 +13,7 @@ use lib.Ieee.{Float, fin, fits, binary32, up, down}
 use Rattle.reading.specs.Reading.{unit, unitsOf, readingOf, inRange}
 use Rattle.station_rules.specs.Rows.{standardBasis, lineCount}
 use Rattle.station_rules.specs.Readings.{lineFloat, glutenFloat, scanServes, askedFloat}
-use Rattle.station_rules.specs.Lines.{openLine}
+use Rattle.station_rules.specs.Lines.{newLine, adjustedLine, shutLine}
 use Rattle.station_rules.specs.Markets.{basisOf, basisFrom, derivedIntercept, askedIntercept, newestDay}
 use Rattle.station_rules.specs.Soundness.{sound as isSound}
 use Rattle.station_rules.specs.Stations.{freshStation}
@@ -50,7 +50,9 @@ module _ (b : Book) (day line : ℕ) (scan : Scan) (asked : Asked) (basis : Basi
     pub number9 : T (inRange (askedFloat scan asked line))
     pub number10 : (pos 0 ≤ℤ bookB) × (bookB ≤ℤ pos 5000)
     pub number11 : (pos 0 ≤ℤ bookH) × (bookH ≤ℤ pos 10000)
-    pub number12 : bookPhase line (b .entries) ≡ openLine
+    pub number12 : bookPhase line (b .entries) ≡ newLine → ⊥
+    pub number25 : bookPhase line (b .entries) ≡ adjustedLine → ⊥
+    pub number26 : bookPhase line (b .entries) ≡ shutLine → ⊥
     pub number13 : day ≤ newestDay (bookPast line (b .entries)) + 7
     pub number14 : natAbs bookH * (10000 - natAbs bookB) ≤ 10000 * (10000 - bookA)
 

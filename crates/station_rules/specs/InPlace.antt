@@ -7,7 +7,7 @@ use mathlib.Core.List.{List, [], _∷_, _++_}
 use lib.Dec.{ltb}
 use lib.IntN.{ℤ, pos, _+ℤ_}
 use lib.ListN.{take, drop, set, replicate}
-use Rattle.station_rules.specs.Lines.{LinePhase, newLine, openLine, checkDueLine, pastSet}
+use Rattle.station_rules.specs.Lines.{LinePhase, newLine, openLine, adjustedLine, shutLine, pastSet}
 use Rattle.station_rules.specs.Held.{phaseWord, phaseCode}
 use Rattle.station_rules.specs.Judging.{sheetSet, sheetVerdict}
 use Rattle.station_rules.specs.Stations.{openOf, valuesOf, sheetOf, repairOf, marketOf}
@@ -20,6 +20,7 @@ use Rattle.station_rules.specs.declared.Asked.{Asked}
 use Rattle.station_rules.specs.declared.Basis.{Basis}
 use Rattle.station_rules.specs.declared.PastSet.{PastSet}
 use Rattle.station_rules.specs.declared.Verdict.{Verdict}
+use Rattle.station_rules.specs.declared.Verdict.the-variants.{Met, Adjusted, Shut}
 use Rattle.station_rules.specs.declared.OpenAnswer.{OpenAnswer}
 use Rattle.station_rules.specs.declared.SheetAnswer.{SheetAnswer}
 use Rattle.station_rules.specs.declared.RepairAnswer.{RepairAnswer}
@@ -49,15 +50,18 @@ onlyPlaces line p = place line 0 ∷ pos (phaseCode openLine) ∷ pos 1 ∷ setP
 abbrev pub openedPlaces : LinePhase → List ℤ → PastSet → List ℤ
 openedPlaces newLine line p = joinedPlaces line p
 openedPlaces openLine line p = joinedPlaces line p
-openedPlaces checkDueLine line p = onlyPlaces line p
+openedPlaces adjustedLine line p = onlyPlaces line p
+openedPlaces shutLine line p = onlyPlaces line p
 
--- the intercept changed, check due, nothing held, the places of the past blank
-abbrev pub closedPlaces : List ℤ → ℤ → List ℤ
-closedPlaces line change = (place line 0 +ℤ change) ∷ pos (phaseCode checkDueLine) ∷ pos 0 ∷ replicate 12 (pos 0)
+-- the intercept changed, the phase, nothing held, the places of the past blank
+abbrev pub closedPlaces : List ℤ → LinePhase → ℤ → List ℤ
+closedPlaces line phase change = (place line 0 +ℤ change) ∷ pos (phaseCode phase) ∷ pos 0 ∷ replicate 12 (pos 0)
 
 -- after a sheet
 unfoldable pub sheetLine : List ℤ → PastSet → Verdict → List ℤ
-sheetLine line p v = cond (v .met) (openedPlaces (phaseWord (lineIn line .phase)) line p) (closedPlaces line (v .change))
+sheetLine line p Met = openedPlaces (phaseWord (lineIn line .phase)) line p
+sheetLine line p (Adjusted change) = closedPlaces line adjustedLine change
+sheetLine line p Shut = closedPlaces line shutLine (pos 0)
 
 -- after a repair: a new or open line is new, any other phase stays; nothing held, the places of the past blank
 unfoldable pub repairedPlaces : List ℤ → List ℤ

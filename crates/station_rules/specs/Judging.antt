@@ -35,7 +35,7 @@ module _ (row last : ℕ) (v : Values) (day line : ℕ) where
       dayCheck last day ∷ lineCheck row line
       ∷ sheetChecks (limitsOf row line) (v .intercept) (samples row) numbers
 
-  -- a market test: numbers 2, 3, 8, 23, 24 and 9 to 14
+  -- a market test: numbers 2, 3, 8, 23, 24, 9 to 12, 25, 26, 13 and 14
   unfoldable pub marketNumbers : Scan → Asked → Basis → List (Check ℕ)
   marketNumbers scan asked basis = dayCheck last day ∷ lineCheck row line ∷ marketChecks row v line scan asked basis day
 

@@ -1,23 +1,28 @@
 -- Statements that follow from the rules, promised for every station.
 use mathlib.Core.Path.{_≡_}
-use mathlib.Core.Bool.{true}
-use mathlib.Core.List.{List, List·Permᴰ}
-use Prim.Native.Nat.{ℕ, _*_, _≤_}
+use mathlib.Core.Logic.{_↔_}
+use mathlib.Core.Bool.{true, false}
+use mathlib.Core.List.{List, List·Permᴰ, map}
+use mathlib.Core.Option.{some}
+use Prim.Native.Nat.{ℕ, _*_, _≤_, _<_}
 use lib.Dec.{T}
-use lib.ListN.{length}
+use lib.ListN.{length, getElem?}
 use lib.IntN.{ℤ, pos, natAbs, _-ℤ_, _*ℤ_}
 use lib.Ieee.{Float}
-use Rattle.station_rules.specs.Rows.{rowExists}
+use Rattle.station_rules.specs.Rows.{rowExists, lineCount, limitsOf}
 use Rattle.station_rules.specs.Sheets.{Sample, samplesOf, numbersOf}
-use Rattle.station_rules.specs.Lines.{Values, verdictOf, metEvery}
+use Rattle.station_rules.specs.Lines.{Values, verdictOf, metEvery, isMet, changeOf, phaseAfter}
 use Rattle.station_rules.specs.Markets.{derivedIntercept, correctedValue, newestDay, tenths, certificateOf}
 use Rattle.station_rules.specs.Soundness.{sound}
 use Rattle.station_rules.specs.Stations.{freshStation, valuesOf, openOf, sheetOf, marketOf}
-use Rattle.station_rules.specs.Replies.{refusedBy, marketReply}
-use Rattle.station_rules.specs.Calls.{Call, stationAfterAll}
+use Rattle.station_rules.specs.Replies.{refusedBy, certificate, marketReply}
+use Rattle.station_rules.specs.Calls.{Call, replies, stationAfterAll}
+use Rattle.station_rules.specs.Books.{freshBook, checkDueBy, bookReplies}
+use Rattle.station_rules.specs.Former.{formerReplies, formerAfterAll, asFormerly}
 use Rattle.station_rules.specs.InPlace.{sheetIn}
 use Rattle.station_rules.specs.declared.Limits.{Limits}
 use Rattle.station_rules.specs.declared.Set.{Set}
+use Rattle.station_rules.specs.declared.Verdict.the-variants.{Adjusted}
 use Rattle.station_rules.specs.declared.Scan.{Scan}
 use Rattle.station_rules.specs.declared.WheatSet.{WheatSet}
 use Rattle.station_rules.specs.declared.WheatClass.{WheatClass}
@@ -38,7 +43,24 @@ StaysSound = (row : ℕ) → T (rowExists row) → (calls : List Call) → sound
 
 -- a verdict meets exactly where the sheet met every average due
 abbrev pub MetIsMet : Type 0
-MetIsMet = (limits : Limits) (v : Values) (day : ℕ) (set : Set) → verdictOf limits v day set .met ≡ metEvery limits v day set
+MetIsMet = (limits : Limits) (v : Values) (day : ℕ) (set : Set) → isMet (verdictOf limits v day set) ≡ metEvery limits v day set
+
+-- by the limits of every row's lines an adjustment's change is never 0, so that the book's sheet entry tells the phase after a sheet that didn't meet
+pub record AdjustmentChanges : Type 0 where
+  pub notZero : (row line : ℕ) → line < lineCount row → (v : Values) (day : ℕ) (set : Set) (change : ℤ)
+      → verdictOf (limitsOf row line) v day set ≡ Adjusted change → change ≡ pos 0 → ⊥
+  pub told : (row line : ℕ) → line < lineCount row → (v : Values) (day : ℕ) (set : Set) → metEvery (limitsOf row line) v day set ≡ false
+      → phaseAfter (verdictOf (limitsOf row line) v day set) ≡ checkDueBy (changeOf (verdictOf (limitsOf row line) v day set))
+
+-- by the numbers 12, 25 and 26 every list of calls on any station is answered as by the former number 12, but for that number
+pub record CertifiedAsBefore : Type 0 where
+  pub answers : (s : Station) (calls : List Call) → formerReplies s calls ≡ map asFormerly (replies s calls)
+  pub after : (s : Station) (calls : List Call) → formerAfterAll s calls ≡ stationAfterAll s calls
+  -- from a fresh station: as the book answers, but for that number
+  pub book : (row : ℕ) → T (rowExists row) → (calls : List Call) → formerReplies (freshStation row) calls ≡ map asFormerly (bookReplies (freshBook row) calls)
+  -- so a certificate is issued exactly where it was, and it is the same one
+  pub certificates : (s : Station) (calls : List Call) (place d : ℕ) (i b : ℤ) (figure converted : ℕ)
+      → (getElem? (replies s calls) place ≡ some (certificate d i b figure converted)) ↔ (getElem? (formerReplies s calls) place ≡ some (certificate d i b figure converted))
 
 -- for the standard basis both figures are equal
 abbrev pub StandardEqual : Type 0

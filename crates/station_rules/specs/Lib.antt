@@ -13,6 +13,7 @@ pub mod Stations
 pub mod Replies
 pub mod Calls
 pub mod Books
+pub mod Former
 pub mod Places
 pub mod InPlace
 pub mod Demand3

@@ -10,15 +10,30 @@ use Rattle.whole.specs.Rounding.{roundedAway}
 use Rattle.station_rules.specs.Lists.{keep}
 use Rattle.station_rules.specs.declared.PastSet.{PastSet}
 use Rattle.station_rules.specs.declared.Verdict.{Verdict}
+use Rattle.station_rules.specs.declared.Verdict.the-variants.{Met, Adjusted, Shut}
 use Rattle.station_rules.specs.declared.Test.{Test}
 use Rattle.station_rules.specs.declared.Set.{Set}
 use Rattle.station_rules.specs.declared.Limits.{Limits}
 
--- a line's phase: new, open, check due
+-- a line's phase: new, open, or check due, after an adjustment or after shutting
 pub data LinePhase : Type 0 where
   newLine : LinePhase
   openLine : LinePhase
-  checkDueLine : LinePhase
+  adjustedLine : LinePhase
+  shutLine : LinePhase
+
+-- what an outcome says of it: new, open, check due
+pub data Phase : Type 0 where
+  newPhase : Phase
+  openPhase : Phase
+  checkDuePhase : Phase
+
+-- check due for an adjusted line and for a shut one
+abbrev pub phaseOf : LinePhase → Phase
+phaseOf newLine = newPhase
+phaseOf openLine = openPhase
+phaseOf adjustedLine = checkDuePhase
+phaseOf shutLine = checkDuePhase
 
 -- what the rules judge a line by: its intercept, its phase, and its past sets, newest first
 pub record Values : Type 0 where
@@ -71,7 +86,8 @@ averagesDue limits set (p ∷ q ∷ r ∷ s ∷ older) =
 unfoldable pub testsBy : Limits → LinePhase → Set → List PastSet → List Test
 testsBy limits newLine set valid = averagesDue limits set valid
 testsBy limits openLine set valid = averagesDue limits set valid
-testsBy limits checkDueLine set valid = testOf (limits .check) set ∷ []
+testsBy limits adjustedLine set valid = testOf (limits .check) set ∷ []
+testsBy limits shutLine set valid = testOf (limits .check) set ∷ []
 
 -- the tests due of a set on a day
 abbrev pub testsDue : Limits → Values → ℕ → Set → List Test
@@ -86,33 +102,41 @@ firstExceeded (t ∷ ts) = cond (exceeded t) (some t) (firstExceeded ts)
 abbrev pub roundedAverage : Test → ℤ
 roundedAverage t = roundedAway (t .sum) (t .count)
 
--- the line is shut: the intercept stays
-abbrev pub shut : Verdict
-shut = record { change = pos 0; met = false }
-
 -- an intercept of −1000..1000
 abbrev pub soundIntercept : ℤ → Bool
 soundIntercept z = leb (natAbs z) 1000
 
 -- adjust by an average: subtract it from the intercept; where that would leave −1000..1000 the line is shut instead
 abbrev pub adjustBy : (intercept average : ℤ) → Verdict
-adjustBy intercept average =
-    cond (soundIntercept (intercept -ℤ average)) (record { change = negℤ average; met = false }) shut
+adjustBy intercept average = cond (soundIntercept (intercept -ℤ average)) (Adjusted (negℤ average)) Shut
 
--- the first test exceeded adjusts by its average; where none is, the line is open
+-- the first test exceeded adjusts by its average; where none is, the set met every average due
 abbrev pub judged : ℤ → Option Test → Verdict
-judged intercept none = record { change = pos 0; met = true }
+judged intercept none = Met
 judged intercept (some t) = adjustBy intercept (roundedAverage t)
 
 -- what a set does to its line: N = 0 shuts it, else the tests due decide
 unfoldable pub verdictOf : Limits → Values → ℕ → Set → Verdict
-verdictOf limits v day set = cond (eqb (set .count) 0) shut (judged (v .intercept) (firstExceeded (testsDue limits v day set)))
+verdictOf limits v day set = cond (eqb (set .count) 0) Shut (judged (v .intercept) (firstExceeded (testsDue limits v day set)))
+
+-- the intercept change: 0 where the set met, and where the line is shut
+abbrev pub changeOf : Verdict → ℤ
+changeOf Met = pos 0
+changeOf (Adjusted change) = change
+changeOf Shut = pos 0
+
+-- the phase after a sheet: open where it met every average due, else adjusted or shut by it
+abbrev pub phaseAfter : Verdict → LinePhase
+phaseAfter Met = openLine
+phaseAfter (Adjusted change) = adjustedLine
+phaseAfter Shut = shutLine
+
+-- whether the set met
+abbrev pub isMet : Verdict → Bool
+isMet Met = true
+isMet (Adjusted change) = false
+isMet Shut = false
 
 -- a sheet met every average due if N is above 0 and no test made of it, or the check, was exceeded
 unfoldable pub metEvery : Limits → Values → ℕ → Set → Bool
 metEvery limits v day set = ltb 0 (set .count) && not (any exceeded (testsDue limits v day set))
-
--- the phase after a sheet: open where it met every average due, else check due
-abbrev pub phaseAfter : Bool → LinePhase
-phaseAfter true = openLine
-phaseAfter false = checkDueLine

@@ -1,4 +1,4 @@
--- docs/SPECIFICATION.md, "Market test and moisture basis" and "Wet gluten": the corrected value, numbers 8 to 14, 23 and 24, and the certificate.
+-- docs/SPECIFICATION.md, "Market test and moisture basis" and "Wet gluten": the corrected value, numbers 8 to 14 and 23 to 26, and the certificate.
 use Prim.Native.Nat.{ℕ, _+_, _*_, _-_, _/_}
 use mathlib.Core.Bool.{Bool, true, false, not, _&&_}
 use mathlib.Core.List.{List, [], _∷_}
@@ -10,7 +10,7 @@ use Rattle.whole.specs.Rounding.{roundedAway}
 use Rattle.reading.specs.Reading.{readingOf, inRange}
 use Rattle.station_rules.specs.Rows.{standardBasis}
 use Rattle.station_rules.specs.Readings.{scanServes, askedFloat}
-use Rattle.station_rules.specs.Lines.{LinePhase, newLine, openLine, checkDueLine, Values}
+use Rattle.station_rules.specs.Lines.{LinePhase, newLine, openLine, adjustedLine, shutLine, Values}
 use Rattle.station_rules.specs.declared.Scan.{Scan}
 use Rattle.station_rules.specs.declared.WheatClass.the-variants.{HardRedWinter, HardRedSpring, Other}
 use Rattle.station_rules.specs.declared.Asked.{Asked}
@@ -60,10 +60,26 @@ otherBasis (Gluten class) Dry = true
 otherBasis (Gluten class) (Specified b) = true
 otherBasis (Gluten class) (AsIs moisture) = true
 
-abbrev pub isOpen : LinePhase → Bool
-isOpen newLine = false
-isOpen openLine = true
-isOpen checkDueLine = false
+-- number 12: the line is new
+abbrev pub isNew : LinePhase → Bool
+isNew newLine = true
+isNew openLine = false
+isNew adjustedLine = false
+isNew shutLine = false
+
+-- number 25: its check is due after an adjustment
+abbrev pub isAdjusted : LinePhase → Bool
+isAdjusted newLine = false
+isAdjusted openLine = false
+isAdjusted adjustedLine = true
+isAdjusted shutLine = false
+
+-- number 26: its check is due after shutting
+abbrev pub isShut : LinePhase → Bool
+isShut newLine = false
+isShut openLine = false
+isShut adjustedLine = false
+isShut shutLine = true
 
 -- the day of the line's newest set
 abbrev pub newestDay : List PastSet → ℕ
@@ -87,7 +103,7 @@ unfoldable pub tenthsAt : (a b h : ℕ) → ℕ
 tenthsAt a b h = (2 * h * (10000 - b) + 10 * (10000 - a)) / (20 * (10000 - a))
 
 module _ (row : ℕ) (v : Values) (line : ℕ) (scan : Scan) (asked : Asked) (basis : Basis) where
-  -- numbers 8, 23, 24 and 9 to 14, of a request on a day
+  -- numbers 8, 23, 24, 9 to 12, 25, 26, 13 and 14, of a request on a day
   unfoldable pub marketChecks : ℕ → List (Check ℕ)
   marketChecks day =
       let a = basisFrom row asked in
@@ -99,7 +115,9 @@ module _ (row : ℕ) (v : Values) (line : ℕ) (scan : Scan) (asked : Asked) (ba
       ∷ record { answer = 9; applies = not (inRange (askedFloat scan asked line)) }
       ∷ record { answer = 10; applies = not (within 0 5000 b) }
       ∷ record { answer = 11; applies = not (within 0 10000 h) }
-      ∷ record { answer = 12; applies = not (isOpen (v .phase)) }
+      ∷ record { answer = 12; applies = isNew (v .phase) }
+      ∷ record { answer = 25; applies = isAdjusted (v .phase) }
+      ∷ record { answer = 26; applies = isShut (v .phase) }
       ∷ record { answer = 13; applies = ltb (newestDay (v .past) + 7) day }
       ∷ record { answer = 14; applies = tooHigh a (natAbs b) (natAbs h) }
       ∷ []

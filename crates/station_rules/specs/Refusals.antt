@@ -6,9 +6,9 @@ use mathlib.Core.Option.{Option, none, some}
 use lib.Dec.{eqb}
 use Rattle.whole.specs.Lists.{Check, firstApplying}
 use Rattle.station_rules.specs.declared.Refusal.{Refusal}
-use Rattle.station_rules.specs.declared.Refusal.the-variants.{UnsoundStation, UnknownRow, BadDay, UnknownLine, SheetSize, SheetNumber, ThirdReading, AgainPair, WrongScan, BadFloat, BadBasis, BadValue, NotOpen, OldSet, TooHigh, GlutenClass, GlutenBasis}
+use Rattle.station_rules.specs.declared.Refusal.the-variants.{UnsoundStation, UnknownRow, BadDay, UnknownLine, SheetSize, SheetNumber, ThirdReading, AgainPair, WrongScan, BadFloat, BadBasis, BadValue, NewLine, OldSet, TooHigh, GlutenClass, GlutenBasis, AdjustedLine, ShutLine}
 
--- the first number that applies is answered; checks stand in the order of their numbers, but 23 and 24 between 8 and 9
+-- the first number that applies is answered; checks stand in the order of their numbers, but 23 and 24 between 8 and 9, 25 and 26 between 12 and 13
 abbrev pub firstNumber : List (Check ℕ) → Option ℕ
 firstNumber = firstApplying none some
 
@@ -26,17 +26,20 @@ numberOf WrongScan = 8
 numberOf BadFloat = 9
 numberOf BadBasis = 10
 numberOf BadValue = 11
-numberOf NotOpen = 12
+numberOf NewLine = 12
 numberOf OldSet = 13
 numberOf TooHigh = 14
 numberOf GlutenClass = 23
 numberOf GlutenBasis = 24
+numberOf AdjustedLine = 25
+numberOf ShutLine = 26
 
 -- all refusals
 abbrev pub refusals : List Refusal
 refusals =
     UnsoundStation ∷ UnknownRow ∷ BadDay ∷ UnknownLine ∷ SheetSize ∷ SheetNumber ∷ ThirdReading ∷ AgainPair
-    ∷ WrongScan ∷ BadFloat ∷ BadBasis ∷ BadValue ∷ NotOpen ∷ OldSet ∷ TooHigh ∷ GlutenClass ∷ GlutenBasis ∷ []
+    ∷ WrongScan ∷ BadFloat ∷ BadBasis ∷ BadValue ∷ NewLine ∷ OldSet ∷ TooHigh ∷ GlutenClass ∷ GlutenBasis
+    ∷ AdjustedLine ∷ ShutLine ∷ []
 
 -- the first refusal of a list that has this number; every number of a check has one
 abbrev pub withNumber : ℕ → List Refusal → Refusal

@@ -2,8 +2,8 @@
 use Prim.Native.Nat.{ℕ}
 use lib.IntN.{ℤ}
 use Rattle.station_rules.specs.Refusals.{numberOf}
-use Rattle.station_rules.specs.Lines.{LinePhase}
-use Rattle.station_rules.specs.Held.{phaseWord}
+use Rattle.station_rules.specs.Lines.{Phase}
+use Rattle.station_rules.specs.Held.{saidWord}
 use Rattle.station_rules.specs.declared.OpenAnswer.{OpenAnswer}
 use Rattle.station_rules.specs.declared.OpenAnswer.the-variants.{Opened}
 use Rattle.station_rules.specs.declared.SheetAnswer.{SheetAnswer}
@@ -18,7 +18,7 @@ use Rattle.station_rules.specs.declared.MarketAnswer.the-variants.{Certi
 pub data Reply : Type 0 where
   refusedBy : (number : ℕ) → Reply
   opening : Reply
-  outcome : (sum : ℤ) (count : ℕ) (phase : LinePhase) (change : ℤ) → Reply
+  outcome : (sum : ℤ) (count : ℕ) (phase : Phase) (change : ℤ) → Reply
   repaired : Reply
   certificate : (day : ℕ) (intercept basis : ℤ) (figure converted : ℕ) → Reply
 
@@ -27,7 +27,7 @@ openReply Opened = opening
 openReply (OpenAnswer.Refused r) = refusedBy (numberOf r)
 
 abbrev pub sheetReply : SheetAnswer → Reply
-sheetReply (Accepted o) = outcome (o .sum) (o .count) (phaseWord (o .phase)) (o .change)
+sheetReply (Accepted o) = outcome (o .sum) (o .count) (saidWord (o .phase)) (o .change)
 sheetReply (SheetAnswer.Refused r) = refusedBy (numberOf r)
 
 abbrev pub repairReply : RepairAnswer → Reply

@@ -7,7 +7,7 @@ use lib.Dec.{leb, eqb}
 use lib.IntN.{natAbs}
 use Rattle.whole.specs.Lists.{all, Check}
 use Rattle.station_rules.specs.Rows.{rowExists, samples, lineCount}
-use Rattle.station_rules.specs.Lines.{LinePhase, newLine, openLine, checkDueLine, soundIntercept}
+use Rattle.station_rules.specs.Lines.{LinePhase, newLine, openLine, adjustedLine, shutLine, soundIntercept}
 use Rattle.station_rules.specs.Held.{phaseExists, phaseWord, lineValues}
 use Rattle.station_rules.specs.declared.PastSet.{PastSet}
 use Rattle.station_rules.specs.declared.Line.{Line}
@@ -17,7 +17,8 @@ use Rattle.station_rules.specs.Held.{Station}
 abbrev pub heldIn : LinePhase → ℕ → Bool
 heldIn newLine held = eqb held 0
 heldIn openLine held = leb 1 held && leb held 4
-heldIn checkDueLine held = eqb held 0
+heldIn adjustedLine held = eqb held 0
+heldIn shutLine held = eqb held 0
 
 -- and its phase is one that there is
 abbrev pub soundHeld : (phase held : ℕ) → Bool

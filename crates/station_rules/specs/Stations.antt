@@ -7,10 +7,10 @@ use lib.ListN.{getD, set, replicate}
 use lib.IntN.{ℤ}
 use Rattle.station_rules.specs.Rows.{rowExists}
 use Rattle.station_rules.specs.Refusals.{firstNumber, refusalOf}
-use Rattle.station_rules.specs.Lines.{Values, pastSet}
+use Rattle.station_rules.specs.Lines.{Values, pastSet, changeOf}
 use Rattle.station_rules.specs.Markets.{certificateOf}
 use Rattle.station_rules.specs.Judging.{sheetNumbers, marketNumbers, repairNumbers, sheetSet, sheetVerdict}
-use Rattle.station_rules.specs.Held.{freshLine, lineValues, lineAfter, phaseHeld, repairedLine}
+use Rattle.station_rules.specs.Held.{freshLine, lineValues, lineAfter, phaseSaid, repairedLine}
 use Rattle.station_rules.specs.Soundness.{soundCheck}
 use Rattle.station_rules.specs.declared.Scan.{Scan}
 use Rattle.station_rules.specs.declared.Asked.{Asked}
@@ -78,7 +78,7 @@ outcomeOf s day line numbers =
     let v = valuesOf s line in
     let set = sheetSet (s .row) v day line numbers in
     let verdict = sheetVerdict (s .row) v day line numbers in
-    record { sum = set .sum; count = set .count; phase = phaseHeld verdict; change = verdict .change }
+    record { sum = set .sum; count = set .count; phase = phaseSaid verdict; change = changeOf verdict }
 
 abbrev pub sheetResult : Option ℕ → Station → Station → Outcome → SheetResult
 sheetResult none s next outcome = record { station = next; answer = SheetAnswer.Accepted outcome }
@@ -115,7 +115,7 @@ abbrev pub marketResult : Option ℕ → Station → Station → Certificate →
 marketResult none s next certificate = record { station = next; answer = MarketAnswer.Certified certificate }
 marketResult (some number) s next certificate = record { station = s; answer = MarketAnswer.Refused (refusalOf number) }
 
--- numbers 0, 2, 3, 8, 23, 24 and 9 to 14
+-- numbers 0, 2, 3, 8, 23, 24, 9 to 12, 25, 26, 13 and 14
 unfoldable pub marketOf : Station → ℕ → ℕ → Scan → Asked → Basis → MarketResult
 marketOf s day line scan asked basis =
     marketResult (firstNumber (soundCheck s ∷ marketNumbers (s .row) (s .day) (valuesOf s line) day line scan asked basis))

@@ -5,7 +5,7 @@ use mathlib.Core.List.{List, _∷_}
 use Prim.Native.Nat.{ℕ, zero, suc, _+_, _*_, _%_, _≤_, _<_}
 use native.Mathlib.Numerals.{add-one}
 use native.Mathlib.Omega.{arith}
-use lib.Dec.{leb, leb→le}
+use lib.Dec.{leb, eqb, leb→le}
 use lib.IntN.{ℤ, natAbs}
 use lib.ListN.{length, take, drop, getD, drop-of-length-le}
 use lib.Seq.{drop-cons, getD-take, length-take-le}
@@ -112,14 +112,24 @@ module _ (n : ℕ) (p : PastSet) where
 -- ---- a line
 
 -- a phase that there isn't
-pub phaseless : (phase held : ℕ) → 3 ≤ phase → false ≡ soundHeld phase held
-phaseless phase held h = simp (le-ltb phase 3 h)
+phaseless : (phase held : ℕ) → 4 ≤ phase → false ≡ soundHeld phase held
+phaseless phase held h = simp (le-ltb phase 4 h)
+
+-- a line that isn't open holds none
+pub closed-held : (phase held : ℕ) → (phase ≡ 1 → ⊥) → (leb phase 3 && eqb held 0) ≡ soundHeld phase held
+closed-held zero held h = refl
+closed-held (suc zero) held h = absurd (h refl)
+closed-held (suc (suc zero)) held h = refl
+closed-held (suc (suc (suc zero))) held h = refl
+closed-held (suc (suc (suc (suc n)))) held h =
+    ap (λ (b : Bool). b && eqb held 0) (lt-leb (suc (suc (suc (suc n)))) 3 (omega arith)) ∙ phaseless (suc (suc (suc (suc n)))) held (omega arith)
 
 pub held-most : (phase held : ℕ) → soundHeld phase held ≡ true → held ≤ 4
 held-most zero held e = omega (arith, eqb-true held 0 e)
 held-most (suc zero) held e = leb→le held 4 (and-r (leb 1 held) (leb held 4) (of-true (leb 1 held && leb held 4) e))
 held-most (suc (suc zero)) held e = omega (arith, eqb-true held 0 e)
-held-most (suc (suc (suc n))) held e = absurd (of-true false (phaseless (suc (suc (suc n))) held (omega arith) ∙ e))
+held-most (suc (suc (suc zero))) held e = omega (arith, eqb-true held 0 e)
+held-most (suc (suc (suc (suc n)))) held e = absurd (of-true false (phaseless (suc (suc (suc (suc n)))) held (omega arith) ∙ e))
 
 module _ (n day : ℕ) (l : Line) where
   pub wild-line : leb (natAbs (l .intercept)) 1000 ≡ false → false ≡ soundLine n day l

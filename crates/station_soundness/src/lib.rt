@@ -1,6 +1,5 @@
 // Numbers 0 and 2, which look at the station alone: whether what stands in the places is a sound station, and whether a call's day serves (docs/SPECIFICATION.md,
 // "Refused calls").
-use station_rules::CHECK_DUE_LINE;
 use station_rules::FIRST_LINE;
 use station_rules::FIRST_SET;
 use station_rules::HELD_PLACE;
@@ -8,10 +7,10 @@ use station_rules::INTERCEPT_BOUND;
 use station_rules::INTERCEPT_PLACE;
 use station_rules::LAST_DAY;
 use station_rules::LINE_PLACES;
-use station_rules::NEW_LINE;
 use station_rules::OPEN_LINE;
 use station_rules::PHASE_PLACE;
 use station_rules::PastSet;
+use station_rules::SHUT_LINE;
 use station_rules::STATION_PLACES;
 use station_rules::SUM_BOUND;
 use whole::Int;
@@ -50,12 +49,10 @@ fn sound_set(n: u32, p: PastSet) -> bool
 fn sound_held(phase: u32, held: u32) -> bool
     ensures { λ r. ⌜ r ≡ soundHeld phase held ⌝ }
 {
-    match phase {
-        NEW_LINE => held == 0,
-        OPEN_LINE => flags::both(1 <= held, held <= held::SETS),
-        CHECK_DUE_LINE => held == 0,
-        _ => false,
+    if phase == OPEN_LINE {
+        return flags::both(1 <= held, held <= held::SETS);
     }
+    flags::both(phase <= SHUT_LINE, held == 0)
 }
 
 // A set whose day does not pass that of the set before it, and that is sound.

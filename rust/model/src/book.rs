@@ -5,7 +5,7 @@ use crate::line::{self, Verdict};
 use crate::market::{self, Asked, Basis, Certificate, Request, Scan};
 use crate::rules::Rules;
 use crate::sheet::{self, Outcome};
-use crate::station::{PastSet, Phase};
+use crate::station::{LinePhase, PastSet};
 
 /// An accepted sheet or repair: each with its day, a sheet also with line, S, N, change and
 /// whether it met every average due.
@@ -57,15 +57,21 @@ impl Book {
     }
 
     /// It is open if the newest sheet or repair touching it is a sheet that met, check due if its
-    /// newest sheet didn't meet, else new.
-    pub fn phase(&self, line: usize) -> Phase {
+    /// newest sheet didn't meet, else new. Adjusted and shut are told by the change of such a line's
+    /// newest sheet, which is 0 just when that sheet shut the line.
+    pub fn phase(&self, line: usize) -> LinePhase {
         if let Some(Entry::Sheet { met: true, .. }) = self.touching(line).next() {
-            return Phase::Open;
+            return LinePhase::Open;
         }
         let is_sheet = |entry: &&Entry| matches!(entry, Entry::Sheet { .. });
         match self.touching(line).find(is_sheet) {
-            Some(Entry::Sheet { met: false, .. }) => Phase::CheckDue,
-            _ => Phase::New,
+            Some(Entry::Sheet {
+                met: false,
+                change: 0,
+                ..
+            }) => LinePhase::Shut,
+            Some(Entry::Sheet { met: false, .. }) => LinePhase::Adjusted,
+            _ => LinePhase::New,
         }
     }
 
@@ -107,7 +113,7 @@ impl Book {
         Ok(Outcome {
             s,
             n,
-            phase: self.phase(line),
+            phase: self.phase(line).phase(),
             change,
         })
     }

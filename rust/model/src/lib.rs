@@ -21,7 +21,7 @@ pub use market::{Asked, Basis, Certificate, Scan, WheatClass};
 pub use reading::reading;
 pub use rules::Rules;
 pub use sheet::{Judged, Outcome};
-pub use station::{Line, PastSet, Phase, Station};
+pub use station::{Line, LinePhase, PastSet, Phase, Station};
 pub use text::TextRefusal;
 
 /// A refused call answers the number.

@@ -1,7 +1,7 @@
 //! Section "A line between sheets": the tests of a new set and what follows from them.
 
 use crate::rules::{Limits, Rules};
-use crate::station::{Line, PastSet, Phase};
+use crate::station::{Line, LinePhase, PastSet};
 
 /// The tests of averages, in the order in which they are made, and the check.
 #[derive(Clone, Copy, Debug, PartialEq, Eq)]
@@ -102,7 +102,7 @@ pub fn verdict(
     rules: &Rules,
     limits: &Limits,
     intercept: i64,
-    phase: Phase,
+    phase: LinePhase,
     past: &[PastSet],
     set: PastSet,
 ) -> Verdict {
@@ -111,9 +111,11 @@ pub fn verdict(
     }
     let sum = Sum { s: set.s, n: set.n };
     let exceeded = match phase {
-        // |S| at most the check limit times N opens the line
-        Phase::CheckDue => sum.exceeds(limits.check).then_some((Test::Check, sum)),
-        Phase::New | Phase::Open => {
+        // Check due: |S| at most the check limit times N opens the line
+        LinePhase::Adjusted | LinePhase::Shut => {
+            sum.exceeds(limits.check).then_some((Test::Check, sum))
+        }
+        LinePhase::New | LinePhase::Open => {
             // Past sets more than 14 days old are ignored. Days never rise from newest to oldest.
             let young = |past: &&PastSet| set.day - past.day <= rules.past_days;
             let count = past.iter().take_while(young).count();
@@ -140,16 +142,20 @@ pub fn follow(line: &mut Line, verdict: Verdict, set: PastSet) {
         // Opens the line with this set as its only past; new and open: the line is open and the
         // set joins the past.
         Verdict::Met => {
-            if line.phase() == Phase::CheckDue {
+            if matches!(line.phase(), LinePhase::Adjusted | LinePhase::Shut) {
                 line.empty();
             }
-            line.phase = Phase::Open.code();
+            line.phase = LinePhase::Open.code();
             line.join(set);
         }
-        // Past sets go and the phase is check due.
-        Verdict::NothingKept | Verdict::Adjusted(..) | Verdict::Bounded(_) => {
-            line.intercept += verdict.change();
-            line.phase = Phase::CheckDue.code();
+        // Past sets go and the phase is check due, after an adjustment or after shutting.
+        Verdict::Adjusted(_, change) => {
+            line.intercept += change;
+            line.phase = LinePhase::Adjusted.code();
+            line.empty();
+        }
+        Verdict::NothingKept | Verdict::Bounded(_) => {
+            line.phase = LinePhase::Shut.code();
             line.empty();
         }
     }

@@ -3,7 +3,7 @@
 use crate::Refusal;
 use crate::reading::reading;
 use crate::rules::{Product, Rules};
-use crate::station::{PastSet, Phase, Station};
+use crate::station::{LinePhase, PastSet, Station};
 
 /// A scan is what the analyser answered: a wheat value, a corn set of protein, oil and starch, or
 /// a fault code (0 to 255). The floats stand as their bits.
@@ -102,16 +102,20 @@ pub struct Request<'a> {
     pub day: i64,
     pub line: usize,
     pub intercept: i64,
-    pub phase: Phase,
+    pub phase: LinePhase,
     pub newest: Option<PastSet>,
 }
 
 impl Request<'_> {
-    /// The day of the line's newest set. 12: The line isn't open. 13: That set is too old.
+    /// The day of the line's newest set. 12: The line is new. In its place 25: Check due after an
+    /// adjustment, and 26: Check due after shutting. 13: That set is too old.
     fn set_day(&self, rules: &Rules) -> Result<i64, Refusal> {
         let newest = match (self.phase, self.newest) {
-            (Phase::Open, Some(newest)) => newest,
-            _ => return Err(12),
+            (LinePhase::Open, Some(newest)) => newest,
+            (LinePhase::Adjusted, _) => return Err(25),
+            (LinePhase::Shut, _) => return Err(26),
+            (LinePhase::New, _) => return Err(12),
+            (LinePhase::Open, None) => unreachable!("an open line has a set"),
         };
         if self.day - newest.day > rules.newest_days {
             return Err(13);
@@ -129,7 +133,8 @@ fn corrected(rules: &Rules, reading: i64, intercept: i64) -> Result<i64, Refusal
     Ok(h)
 }
 
-/// Numbers 8, 23, 24 and 9 to 14 in this order, then the certificate.
+/// Numbers 8, 23, 24, 9 to 11, 12 or in its place 25 or 26, 13 and 14 in this order, then the
+/// certificate.
 pub fn certify(
     rules: &Rules,
     request: &Request,
@@ -202,7 +207,7 @@ fn certify_line(
 }
 
 impl Station {
-    /// A market test: numbers 0, 2, 3, 8, 23, 24 and 9 to 14. A certified one moves the station's
+    /// A market test: numbers 0, 2, 3, 8 to 14 and 23 to 26. A certified one moves the station's
     /// day.
     pub fn market(
         &mut self,

@@ -211,7 +211,7 @@ impl Station {
             outcome: Outcome {
                 s: sums.s,
                 n: sums.n,
-                phase: line.phase(),
+                phase: line.phase().phase(),
                 change: verdict.change(),
             },
             verdict,

@@ -3,7 +3,7 @@
 
 use crate::{Refusal, Rules};
 
-/// A phase (new, open, check due).
+/// A phase (new, open, check due), as a sheet's outcome says it.
 #[derive(Clone, Copy, Debug, PartialEq, Eq)]
 pub enum Phase {
     New,
@@ -12,7 +12,7 @@ pub enum Phase {
 }
 
 impl Phase {
-    /// The number that a line holds for its phase.
+    /// The number that an outcome carries for the phase.
     pub const fn code(self) -> i64 {
         match self {
             Phase::New => 0,
@@ -20,14 +20,46 @@ impl Phase {
             Phase::CheckDue => 2,
         }
     }
+}
+
+/// A line's phase. Of a line whose check is due it is also told what its newest sheet did: it
+/// adjusted the line, or it shut it.
+#[derive(Clone, Copy, Debug, PartialEq, Eq)]
+pub enum LinePhase {
+    New,
+    Open,
+    Adjusted,
+    Shut,
+}
+
+impl LinePhase {
+    /// The number that a line holds for its phase.
+    pub const fn code(self) -> i64 {
+        match self {
+            LinePhase::New => 0,
+            LinePhase::Open => 1,
+            LinePhase::Adjusted => 2,
+            LinePhase::Shut => 3,
+        }
+    }
 
     /// None: a number that stands for no phase.
-    pub const fn of(code: i64) -> Option<Phase> {
+    pub const fn of(code: i64) -> Option<LinePhase> {
         match code {
-            0 => Some(Phase::New),
-            1 => Some(Phase::Open),
-            2 => Some(Phase::CheckDue),
+            0 => Some(LinePhase::New),
+            1 => Some(LinePhase::Open),
+            2 => Some(LinePhase::Adjusted),
+            3 => Some(LinePhase::Shut),
             _ => None,
+        }
+    }
+
+    /// A sheet's outcome still says check due for both.
+    pub const fn phase(self) -> Phase {
+        match self {
+            LinePhase::New => Phase::New,
+            LinePhase::Open => Phase::Open,
+            LinePhase::Adjusted | LinePhase::Shut => Phase::CheckDue,
         }
     }
 }
@@ -66,14 +98,14 @@ pub struct Station {
 impl Line {
     pub const FRESH: Line = Line {
         intercept: 0,
-        phase: Phase::New.code(),
+        phase: LinePhase::New.code(),
         held: 0,
         past: [BLANK; 4],
     };
 
     /// The phase. Only a sound line is asked.
-    pub fn phase(&self) -> Phase {
-        Phase::of(self.phase).expect("a sound line")
+    pub fn phase(&self) -> LinePhase {
+        LinePhase::of(self.phase).expect("a sound line")
     }
 
     /// The past sets, newest first. Only a sound line is asked.
@@ -99,9 +131,9 @@ impl Line {
     /// twice the row's samples, and |S| is at most 11000 times N.
     /// A code that stands for no phase and a day below 0 are no phase and no day.
     fn sound(&self, rules: &Rules, samples: i64, day: i64) -> bool {
-        let held_fits = match Phase::of(self.phase) {
-            Some(Phase::Open) => (1..=4).contains(&self.held),
-            Some(Phase::New | Phase::CheckDue) => self.held == 0,
+        let held_fits = match LinePhase::of(self.phase) {
+            Some(LinePhase::Open) => (1..=4).contains(&self.held),
+            Some(LinePhase::New | LinePhase::Adjusted | LinePhase::Shut) => self.held == 0,
             None => false,
         };
         held_fits
@@ -157,15 +189,16 @@ impl Station {
     }
 
     /// A repair (or new slope), which names its day and touches all lines, empties every line's
-    /// past. New and open lines become new; check due stays. Intercepts stay.
+    /// past. New and open lines become new; check due stays, and a repair doesn't alter which of the
+    /// two it is. Intercepts stay.
     pub fn repair(&mut self, rules: &Rules, day: u32) -> Result<(), Refusal> {
         let day = self.called_on(rules, day)?;
         // Every line's past is emptied, also that of lines that the grain lacks. Their phase may be
         // any number: only the code of open becomes that of new.
         for line in &mut self.lines {
             line.empty();
-            if line.phase == Phase::Open.code() {
-                line.phase = Phase::New.code();
+            if line.phase == LinePhase::Open.code() {
+                line.phase = LinePhase::New.code();
             }
         }
         self.day = day;

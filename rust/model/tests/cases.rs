@@ -1,14 +1,17 @@
 //! The model on the cases at the edges of the rules, the example of week 26 and the readings of
 //! sentences that admit two.
 
+mod sheets;
+
 use grain_model::rules::Limits;
 use grain_model::sheet::Sample;
 use grain_model::station::BLANK;
 use grain_model::text::program;
 use grain_model::{
-    Asked, Basis, Book, Certificate, Chart, Judged, Line, PastSet, Phase, Rules, Scan, Station,
+    Asked, Basis, Book, Certificate, Chart, Judged, Line, LinePhase, PastSet, Rules, Scan, Station,
     Test, Verdict, WheatClass, reading,
 };
+use sheets::{again, twice, wheat_sheet};
 
 const NAMES: &str = "week sample original monitor\n";
 const OUT_NAMES: &str = "week n sum range al tl run ral rtl\n";
@@ -17,30 +20,8 @@ fn wheat() -> Limits {
     Rules::in_force().products[0].lines[0].clone()
 }
 
-/// A sample measured twice whose deviation is `deviation` at intercept 0.
-fn twice(deviation: i32) -> [i32; 6] {
-    let first = 1300 + deviation.div_euclid(2);
-    [1300, first, 2600 + deviation - first, -1, -1, -1]
-}
-
-/// The same with an again pair of this deviation.
-fn again(deviation: i32, anew: i32) -> [i32; 6] {
-    let [baseline, first, second, ..] = twice(deviation);
-    let [_, again_first, again_second, ..] = twice(anew);
-    [baseline, first, second, -1, again_first, again_second]
-}
-
-/// A wheat sheet whose S is `s` (N 12) at intercept `intercept`, spread evenly.
-fn wheat_sheet(s: i32, intercept: i32) -> Vec<i32> {
-    let each = s.div_euclid(6);
-    let more = s.rem_euclid(6) as usize;
-    (0..6)
-        .flat_map(|place| twice(each + i32::from(place < more) - 2 * intercept))
-        .collect()
-}
-
 /// A wheat station with this line 0.
-fn station(phase: Phase, intercept: i64, day: i64, past: &[(i64, i64)]) -> Station {
+fn station(phase: LinePhase, intercept: i64, day: i64, past: &[(i64, i64)]) -> Station {
     let mut line = Line {
         intercept,
         phase: phase.code(),
@@ -60,7 +41,7 @@ fn entered(mut station: Station, day: u32, s: i32) -> (Station, Verdict) {
     let numbers = wheat_sheet(s, station.lines[0].intercept as i32);
     let judged = station.sheet(&Rules::in_force(), day, 0, &numbers).unwrap();
     assert_eq!((judged.outcome.s, judged.outcome.n), (i64::from(s), 12));
-    assert_eq!(judged.outcome.phase, station.lines[0].phase());
+    assert_eq!(judged.outcome.phase, station.lines[0].phase().phase());
     (station, judged.verdict)
 }
 
@@ -185,7 +166,7 @@ fn in_every_order(station: Station, samples: [[i32; 6]; 6]) -> (Result<Judged, u
 /// The same samples in another order: the same outcome and station, or the same refusal.
 #[test]
 fn orders_of_samples() {
-    let open = station(Phase::Open, 0, 20, &[(19, 20), (18, -10)]);
+    let open = station(LinePhase::Open, 0, 20, &[(19, 20), (18, -10)]);
     let third = [1250, 1240, 1275, 1245, -1, -1];
     let kept = [1400, 1451, 1451, -1, 1410, 1412];
     let dropped = [1200, 1140, 1145, -1, 1150, 1155];
@@ -217,7 +198,7 @@ fn one_set() {
     let (open, verdict) = entered(fresh, 3, 120);
     assert_eq!(
         (verdict, open.lines[0].phase()),
-        (Verdict::Met, Phase::Open)
+        (Verdict::Met, LinePhase::Open)
     );
     assert_eq!(
         open.lines[0].sets(),
@@ -231,20 +212,20 @@ fn one_set() {
     let (adjusted, verdict) = entered(fresh, 3, 121);
     assert_eq!(verdict, Verdict::Adjusted(Test::One, -10));
     assert_eq!(adjusted.lines[0].intercept, -10);
-    assert_eq!(adjusted.lines[0].phase(), Phase::CheckDue);
+    assert_eq!(adjusted.lines[0].phase(), LinePhase::Adjusted);
     assert_eq!(entered(fresh, 3, -126).0.lines[0].intercept, 11);
     assert_eq!(entered(fresh, 3, -125).0.lines[0].intercept, 10);
 }
 
 #[test]
 fn two_and_three_sets() {
-    let open = station(Phase::Open, 0, 20, &[(6, 70)]);
+    let open = station(LinePhase::Open, 0, 20, &[(6, 70)]);
     assert_eq!(entered(open, 20, 98).1, Verdict::Met);
     assert_eq!(entered(open, 20, 99).1, Verdict::Adjusted(Test::Two, -7));
     // 14 days old counts, 15 doesn't.
     assert_eq!(entered(open, 21, 99).1, Verdict::Met);
     assert_eq!(entered(open, 20, 99).0.lines[0].past, [BLANK; 4]);
-    let open = station(Phase::Open, 0, 20, &[(7, 60), (6, 60)]);
+    let open = station(LinePhase::Open, 0, 20, &[(7, 60), (6, 60)]);
     assert_eq!(entered(open, 20, 60).1, Verdict::Met);
     assert_eq!(entered(open, 20, 61).1, Verdict::Adjusted(Test::Three, -5));
     // The older one ignored: two sets only.
@@ -253,7 +234,14 @@ fn two_and_three_sets() {
 
 #[test]
 fn five_sets() {
-    let past = |s: i64| station(Phase::Open, 0, 20, &[(20, s), (20, s), (19, s), (18, s)]);
+    let past = |s: i64| {
+        station(
+            LinePhase::Open,
+            0,
+            20,
+            &[(20, s), (20, s), (19, s), (18, s)],
+        )
+    };
     assert_eq!(entered(past(36), 20, 36).1, Verdict::Met);
     assert_eq!(
         entered(past(37), 20, 37).1,
@@ -264,7 +252,12 @@ fn five_sets() {
         Verdict::Adjusted(Test::Five, 3)
     );
     // Zero breaks the five, and so does another sign.
-    let broken = station(Phase::Open, 0, 20, &[(20, 55), (20, 55), (19, 0), (18, 90)]);
+    let broken = station(
+        LinePhase::Open,
+        0,
+        20,
+        &[(20, 55), (20, 55), (19, 0), (18, 90)],
+    );
     assert_eq!(entered(broken, 20, 55).1, Verdict::Met);
     // Only the newest four are held.
     let (five, _) = entered(past(36), 20, 35);
@@ -274,11 +267,17 @@ fn five_sets() {
 
 #[test]
 fn check_due() {
-    let due = station(Phase::CheckDue, 40, 9, &[]);
+    for phase in [LinePhase::Adjusted, LinePhase::Shut] {
+        checked(station(phase, 40, 9, &[]));
+    }
+}
+
+/// The check of a line of intercept 40, whatever made it due.
+fn checked(due: Station) {
     let (open, verdict) = entered(due, 9, 60);
     assert_eq!(
         (verdict, open.lines[0].phase()),
-        (Verdict::Met, Phase::Open)
+        (Verdict::Met, LinePhase::Open)
     );
     assert_eq!(
         open.lines[0].sets(),
@@ -292,44 +291,46 @@ fn check_due() {
     assert_eq!(verdict, Verdict::Adjusted(Test::Check, -5));
     assert_eq!(
         (again.lines[0].intercept, again.lines[0].phase()),
-        (35, Phase::CheckDue)
+        (35, LinePhase::Adjusted)
     );
 }
 
 #[test]
 fn shut_at_the_bound() {
-    let near = station(Phase::New, -990, 0, &[]);
+    let near = station(LinePhase::New, -990, 0, &[]);
     assert_eq!(entered(near, 0, 125).1, Verdict::Adjusted(Test::One, -10));
     let (shut, verdict) = entered(near, 0, 126);
     assert_eq!(verdict, Verdict::Bounded(Test::One));
     assert_eq!(
         (shut.lines[0].intercept, shut.lines[0].phase()),
-        (-990, Phase::CheckDue)
+        (-990, LinePhase::Shut)
     );
 }
 
 #[test]
 fn repairs() {
     let rules = Rules::in_force();
-    let mut open = station(Phase::Open, 12, 9, &[(9, 5), (8, 6)]);
+    let mut open = station(LinePhase::Open, 12, 9, &[(9, 5), (8, 6)]);
     assert_eq!(open.repair(&rules, 8), Err(2));
     assert_eq!(open.repair(&rules, 10), Ok(()));
-    assert_eq!(open, station(Phase::New, 12, 10, &[]));
-    let mut due = station(Phase::CheckDue, 12, 9, &[]);
-    due.repair(&rules, 99_999).unwrap();
-    assert_eq!(due, station(Phase::CheckDue, 12, 99_999, &[]));
-    assert_eq!(due.repair(&rules, 100_000), Err(2));
+    assert_eq!(open, station(LinePhase::New, 12, 10, &[]));
+    for phase in [LinePhase::Adjusted, LinePhase::Shut] {
+        let mut due = station(phase, 12, 9, &[]);
+        due.repair(&rules, 99_999).unwrap();
+        assert_eq!(due, station(phase, 12, 99_999, &[]));
+        assert_eq!(due.repair(&rules, 100_000), Err(2));
+    }
 }
 
 /// Number 0 looks at the row's lines and their held sets only; a number below 0 is no day, and a
-/// code other than 0, 1, 2 no phase.
+/// code other than 0 to 3 no phase.
 #[test]
 fn stored_stations() {
     let rules = Rules::in_force();
-    let open = station(Phase::Open, 12, 9, &[(9, 5), (8, 6)]);
+    let open = station(LinePhase::Open, 12, 9, &[(9, 5), (8, 6)]);
     let refused = |mut station: Station| station.repair(&rules, 9) == Err(0);
     assert!(!refused(open));
-    for phase in [-1, 3, i64::from(i32::MIN), i64::from(i32::MAX)] {
+    for phase in [-1, 4, i64::from(i32::MIN), i64::from(i32::MAX)] {
         let mut unknown = open;
         unknown.lines[0].phase = phase;
         assert!(refused(unknown));
@@ -373,10 +374,30 @@ fn stored_stations() {
     assert_eq!(after.lines[0].past[3], odd);
 }
 
+/// An open line has one to four past sets and any other none.
+#[test]
+fn only_open_lines_hold_sets() {
+    let rules = Rules::in_force();
+    let answer = |phase, past: &[_]| station(phase, -1000, 9, past).repair(&rules, 9);
+    for (phase, _) in NOT_OPEN {
+        assert_eq!(answer(phase, &[]), Ok(()));
+        assert_eq!(answer(phase, &[(9, 5)]), Err(0));
+    }
+    assert_eq!(answer(LinePhase::Open, &[]), Err(0));
+    assert_eq!(answer(LinePhase::Open, &[(9, 5)]), Ok(()));
+}
+
+/// The phases in which no market grain is tested, with their numbers.
+const NOT_OPEN: [(LinePhase, u8); 3] = [
+    (LinePhase::New, 12),
+    (LinePhase::Adjusted, 25),
+    (LinePhase::Shut, 26),
+];
+
 #[test]
 fn market_figures() {
     let rules = Rules::in_force();
-    let open = station(Phase::Open, 0, 10, &[(10, 0)]);
+    let open = station(LinePhase::Open, 0, 10, &[(10, 0)]);
     let asked = |mut station: Station, day, percent: f32, basis| {
         let scan = Scan::Wheat(percent.to_bits());
         let answer = station.market(&rules, day, 0, scan, Asked::LineFigure, basis);
@@ -398,14 +419,18 @@ fn market_figures() {
     );
     assert_eq!(asked(open, 10, 13.45, Basis::Unknown), Err(10));
     assert_eq!(asked(open, 10, f32::NAN, Basis::Unknown), Err(9));
-    let low = station(Phase::Open, -1000, 10, &[(10, 0)]);
+    let low = station(LinePhase::Open, -1000, 10, &[(10, 0)]);
     assert_eq!(asked(low, 10, 9.99, Basis::Unknown), Err(10));
     assert_eq!(asked(low, 10, 9.99, Basis::Standard), Err(11));
     assert_eq!(asked(low, 10, 10.0, Basis::Standard), Ok((0, 0)));
-    // h is judged though the line isn't open.
-    let new = station(Phase::New, -1000, 10, &[]);
-    assert_eq!(asked(new, 10, 9.99, Basis::Standard), Err(11));
-    assert_eq!(asked(new, 10, 10.0, Basis::Standard), Err(12));
+    // B and h are judged though the line isn't open; a set's age and the value at B are not.
+    for (phase, number) in NOT_OPEN {
+        let not_open = station(phase, -1000, 10, &[]);
+        assert_eq!(asked(not_open, 10, 9.99, Basis::Unknown), Err(10));
+        assert_eq!(asked(not_open, 10, 9.99, Basis::Standard), Err(11));
+        assert_eq!(asked(not_open, 10, 10.0, Basis::Standard), Err(number));
+        assert_eq!(asked(not_open, 99_999, 99.0, Basis::Dry), Err(number));
+    }
 }
 
 #[test]
@@ -439,7 +464,7 @@ fn wheat_scan(protein: f32, gluten: f32) -> Scan {
 
 /// A wheat station that is open with this intercept, its newest set of day 10.
 fn open_wheat(intercept: i64) -> Station {
-    station(Phase::Open, intercept, 10, &[(10, 0), (9, 0)])
+    station(LinePhase::Open, intercept, 10, &[(10, 0), (9, 0)])
 }
 
 /// What is asked of a wheat station's line 0 on day 10.
@@ -513,7 +538,7 @@ fn gluten_figures() {
     assert_eq!(asked(0, 100.1, SPRING), Err(9));
 }
 
-/// 8, 23, 24, 9, 11, 12, 13 in this order.
+/// 8, 23, 24, 9, 11, then 12, 25 or 26, then 13, in this order.
 #[test]
 fn gluten_refusals() {
     let asked = |scan, class, basis| market(open_wheat(0), scan, class, basis).map(|_| ());
@@ -548,11 +573,11 @@ fn gluten_refusals() {
         }
     }
     // The line's permission is the protein line's.
-    for phase in [Phase::New, Phase::CheckDue] {
-        let shut = station(phase, -1000, 10, &[]);
-        let asked = |scan| market(shut, scan, WINTER, Basis::Standard);
+    for (phase, number) in NOT_OPEN {
+        let not_open = station(phase, -1000, 10, &[]);
+        let asked = |scan| market(not_open, scan, WINTER, Basis::Standard);
         assert_eq!(asked(wheat_scan(50.0, 30.28)), Err(11));
-        assert_eq!(asked(wheat_scan(50.0, 30.29)), Err(12));
+        assert_eq!(asked(wheat_scan(50.0, 30.29)), Err(number));
     }
     let rules = Rules::in_force();
     let on = |day, line| {
@@ -774,5 +799,5 @@ fn the_book_agrees() {
         let held = station.lines[0].sets();
         assert_eq!(book.past(0)[..held.len()], *held);
     }
-    assert_eq!(station.lines[0].phase(), Phase::Open);
+    assert_eq!(station.lines[0].phase(), LinePhase::Open);
 }

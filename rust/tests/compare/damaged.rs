@@ -1,6 +1,11 @@
-//! Damaged models: each number of the rules off by one.
+//! Damaged models: each number of the rules off by one, and models that tell the lines that aren't open
+//! wrongly.
 
-use grain_model::Rules;
+use grain_model::{Line, LinePhase, Rules, Station, Verdict};
+
+use crate::encode::{self, StationPlaces};
+use crate::markets;
+use crate::stations::Request;
 
 /// The numbers of the rules with a name each.
 pub fn numbers(rules: &mut Rules) -> Vec<(String, &mut i64)> {
@@ -67,4 +72,105 @@ pub fn rules(place: usize, by: i64) -> Option<(String, Rules)> {
         format!("{name} {} instead of {}", **number, **number - by)
     };
     Some((name, rules))
+}
+
+/// What a wrong model does.
+#[derive(Clone, Copy, Debug, PartialEq, Eq)]
+pub enum Wrong {
+    /// 12 for every line that isn't open.
+    OneNumber,
+    /// 25 and 26 exchanged.
+    Exchanged,
+    /// 25 and 26 tried before 11.
+    BeforeCorrected,
+    /// 13 tried before 25 and 26, by the first place of the past.
+    AfterOldSet,
+    /// 14 tried before 25 and 26.
+    AfterHighValue,
+    /// Shut is told by N = 0 alone: a line at the bound is adjusted.
+    ShutByNothingKept,
+    /// A shut line that its check adjusts stays shut.
+    StaysShut,
+    /// An adjusted line that is shut stays adjusted.
+    StaysAdjusted,
+    /// A repair makes a shut line adjusted.
+    RepairAdjusts,
+    /// A repair makes an adjusted line shut.
+    RepairShuts,
+    /// A repair makes a line new whose check is due.
+    RepairForgets,
+}
+
+pub const WRONG: [Wrong; 11] = [
+    Wrong::OneNumber,
+    Wrong::Exchanged,
+    Wrong::BeforeCorrected,
+    Wrong::AfterOldSet,
+    Wrong::AfterHighValue,
+    Wrong::ShutByNothingKept,
+    Wrong::StaysShut,
+    Wrong::StaysAdjusted,
+    Wrong::RepairAdjusts,
+    Wrong::RepairShuts,
+    Wrong::RepairForgets,
+];
+
+impl Wrong {
+    /// The station after an accepted sheet with this verdict.
+    pub fn sheet(self, before: &StationPlaces, after: &mut Station, line: u64, verdict: Verdict) {
+        let place = line as usize;
+        let shut = matches!(verdict, Verdict::NothingKept | Verdict::Bounded(_));
+        let adjusted = matches!(verdict, Verdict::Adjusted(..));
+        let phase = match (self, encode::station(before).lines[place].phase()) {
+            (Wrong::ShutByNothingKept, _) if matches!(verdict, Verdict::Bounded(_)) => {
+                LinePhase::Adjusted
+            }
+            (Wrong::StaysShut, LinePhase::Shut) if adjusted => LinePhase::Shut,
+            (Wrong::StaysAdjusted, LinePhase::Adjusted) if shut => LinePhase::Adjusted,
+            _ => return,
+        };
+        after.lines[place].phase = phase.code();
+    }
+
+    /// The station after an accepted repair.
+    pub fn repair(self, before: &StationPlaces, after: &mut Station) {
+        let before = encode::station(before);
+        for (line, then) in before.lines.iter().zip(&mut after.lines) {
+            let phase = match (self, LinePhase::of(line.phase)) {
+                (Wrong::RepairAdjusts, Some(LinePhase::Shut)) => LinePhase::Adjusted,
+                (Wrong::RepairShuts, Some(LinePhase::Adjusted)) => LinePhase::Shut,
+                (Wrong::RepairForgets, Some(LinePhase::Adjusted | LinePhase::Shut)) => {
+                    LinePhase::New
+                }
+                _ => continue,
+            };
+            then.phase = phase.code();
+        }
+    }
+
+    /// The number in place of the right one that refuses a market test.
+    pub fn number(self, before: &StationPlaces, request: Request, right: u8) -> u8 {
+        let station = encode::station(before);
+        let Some(line) = usize::try_from(request.line)
+            .ok()
+            .and_then(|place| station.lines.get(place))
+        else {
+            return right;
+        };
+        let old = |line: &Line| i64::from(request.day) - line.past[0].day > 7;
+        let high = || request.asked == 0 && markets::too_high(&station, line, request);
+        match (self, right) {
+            (Wrong::OneNumber, 25 | 26) => 12,
+            (Wrong::Exchanged, 25) => 26,
+            (Wrong::Exchanged, 26) => 25,
+            (Wrong::BeforeCorrected, 11) => match LinePhase::of(line.phase) {
+                Some(LinePhase::Adjusted) => 25,
+                Some(LinePhase::Shut) => 26,
+                _ => 11,
+            },
+            (Wrong::AfterOldSet, 25 | 26) if old(line) => 13,
+            (Wrong::AfterHighValue, 25 | 26) if high() => 14,
+            _ => right,
+        }
+    }
 }

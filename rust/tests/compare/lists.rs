@@ -2,9 +2,10 @@
 
 use grain_model::rules::Limits;
 use grain_model::sheet::Sample;
-use grain_model::{Judged, Line, PastSet, Phase, Station, Test, Verdict};
+use grain_model::{Judged, Line, LinePhase, PastSet, Phase, Station, Test, Verdict};
 
 use crate::encode;
+use crate::history;
 use crate::lent::Difference;
 use crate::markets::market;
 use crate::rng::Rng;
@@ -161,9 +162,10 @@ fn repair(trial: &mut Trial, subject: &mut Subject, ending: bool) -> Result<(), 
     }
     for line in &station.lines[..lines(&station)] {
         trial.met.branch(match line.phase() {
-            Phase::New => "repair: new line",
-            Phase::Open => "repair: open line",
-            Phase::CheckDue => "repair: check due line",
+            LinePhase::New => "repair: new line",
+            LinePhase::Open => "repair: open line",
+            LinePhase::Adjusted => "repair: adjusted line",
+            LinePhase::Shut => "repair: shut line",
         });
     }
     Ok(())
@@ -203,6 +205,9 @@ fn sheet(trial: &mut Trial, subject: &mut Subject, lean: Lean) -> Result<(), Dif
     if let Ok(judged) = answer {
         count_sheet(trial, held, &limits, i64::from(day), &judged);
         count_samples(trial, &limits, held.intercept, &numbers);
+        let (s, n) = (judged.outcome.s, judged.outcome.n);
+        let events = &subject.history[line as usize];
+        history::count_check_after_repair(&mut trial.met, events, s.abs() <= limits.one * n);
         trial
             .met
             .branch(["sheet: line 0", "sheet: line 1", "sheet: line 2"][line as usize]);
@@ -273,7 +278,7 @@ impl Writer<'_> {
     fn edge(&mut self, line: &Line, day: i64, n: i64) -> i64 {
         let limits = self.limits;
         let sets = line.sets();
-        let (count, limit) = match line.phase() {
+        let (count, limit) = match line.phase().phase() {
             Phase::CheckDue => (0, limits.check),
             _ => self.rng.pick(&[
                 (0, limits.one),
@@ -485,28 +490,7 @@ fn count_sheet(trial: &mut Trial, line: &Line, limits: &Limits, day: i64, judged
     met.branch_if(judged.again > judged.dropped, "sheet: again pair kept");
     met.branch_if(judged.dropped > 0 && n > 0, "sheet: some samples dropped");
     met.branch_if(day == 99_999, "sheet: on the last day");
-    met.branch(match judged.verdict {
-        Verdict::NothingKept => match line.phase() {
-            Phase::New => "sheet: shut, nothing kept, new line",
-            Phase::Open => "sheet: shut, nothing kept, open line",
-            Phase::CheckDue => "sheet: shut, nothing kept, check due line",
-        },
-        Verdict::Met => match line.phase() {
-            Phase::New => "sheet: opens a new line",
-            Phase::Open => "sheet: joins an open line",
-            Phase::CheckDue => "sheet: opens a check due line",
-        },
-        Verdict::Adjusted(Test::One, _) => "sheet: one exceeded",
-        Verdict::Adjusted(Test::Two, _) => "sheet: two exceeded",
-        Verdict::Adjusted(Test::Three, _) => "sheet: three exceeded",
-        Verdict::Adjusted(Test::Five, _) => "sheet: five exceeded",
-        Verdict::Adjusted(Test::Check, _) => "sheet: check exceeded",
-        Verdict::Bounded(Test::One) => "sheet: shut at the bound, one",
-        Verdict::Bounded(Test::Two) => "sheet: shut at the bound, two",
-        Verdict::Bounded(Test::Three) => "sheet: shut at the bound, three",
-        Verdict::Bounded(Test::Five) => "sheet: shut at the bound, five",
-        Verdict::Bounded(Test::Check) => "sheet: shut at the bound, check",
-    });
+    met.branch(verdict_name(line, judged.verdict));
     if let Verdict::Adjusted(test, change) = judged.verdict {
         let bound = (line.intercept + change).abs() == 1000;
         met.branch_if(bound, "sheet: adjusted to the bound itself");
@@ -520,6 +504,40 @@ fn count_sheet(trial: &mut Trial, line: &Line, limits: &Limits, day: i64, judged
     count_ages(trial, line, limits, day, judged);
 }
 
+/// The branch of a verdict on this line.
+fn verdict_name(line: &Line, verdict: Verdict) -> &'static str {
+    match verdict {
+        Verdict::NothingKept => match line.phase() {
+            LinePhase::New => "sheet: shut, nothing kept, new line",
+            LinePhase::Open => "sheet: shut, nothing kept, open line",
+            LinePhase::Adjusted => "sheet: shut, nothing kept, adjusted line",
+            LinePhase::Shut => "sheet: shut, nothing kept, shut line",
+        },
+        Verdict::Met => match line.phase() {
+            LinePhase::New => "sheet: opens a new line",
+            LinePhase::Open => "sheet: joins an open line",
+            LinePhase::Adjusted => "sheet: opens an adjusted line",
+            LinePhase::Shut => "sheet: opens a shut line",
+        },
+        Verdict::Adjusted(Test::One, _) => "sheet: one exceeded",
+        Verdict::Adjusted(Test::Two, _) => "sheet: two exceeded",
+        Verdict::Adjusted(Test::Three, _) => "sheet: three exceeded",
+        Verdict::Adjusted(Test::Five, _) => "sheet: five exceeded",
+        Verdict::Adjusted(Test::Check, _) => match line.phase() {
+            LinePhase::Shut => "sheet: check exceeded, shut line",
+            _ => "sheet: check exceeded, adjusted line",
+        },
+        Verdict::Bounded(Test::One) => "sheet: shut at the bound, one",
+        Verdict::Bounded(Test::Two) => "sheet: shut at the bound, two",
+        Verdict::Bounded(Test::Three) => "sheet: shut at the bound, three",
+        Verdict::Bounded(Test::Five) => "sheet: shut at the bound, five",
+        Verdict::Bounded(Test::Check) => match line.phase() {
+            LinePhase::Shut => "sheet: shut at the bound, check of a shut line",
+            _ => "sheet: shut at the bound, check of an adjusted line",
+        },
+    }
+}
+
 /// Tests that were just not exceeded, and what broke the five.
 fn count_met(trial: &mut Trial, line: &Line, limits: &Limits, set: PastSet) {
     let met = &mut trial.met;
@@ -531,8 +549,8 @@ fn count_met(trial: &mut Trial, line: &Line, limits: &Limits, set: PastSet) {
         let n = set.n + past.iter().map(|past| past.n).sum::<i64>();
         s.abs() == limit * n
     };
-    if line.phase() == Phase::CheckDue {
-        met.branch_if(at(0, limits.check), "sheet: at the check limit");
+    if line.phase().phase() == Phase::CheckDue {
+        met.branch_if(at(0, limits.check), at_check_limit(line));
         return;
     }
     met.branch_if(at(0, limits.one), "sheet: at the one limit");
@@ -556,6 +574,13 @@ fn count_met(trial: &mut Trial, line: &Line, limits: &Limits, set: PastSet) {
     let above = all.iter().sum::<i64>().abs() > limits.five * n;
     met.branch_if(above && all.contains(&0), "sheet: zero breaks the five");
     met.branch_if(above && !all.contains(&0), "sheet: signs break the five");
+}
+
+fn at_check_limit(line: &Line) -> &'static str {
+    match line.phase() {
+        LinePhase::Shut => "sheet: at the check limit, shut line",
+        _ => "sheet: at the check limit, adjusted line",
+    }
 }
 
 /// Newest past sets at the age of 14 and 15 days where the two together are above their limit.

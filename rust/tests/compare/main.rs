@@ -8,6 +8,7 @@
 mod charts;
 mod damaged;
 mod encode;
+mod history;
 mod lent;
 mod lists;
 mod markets;
@@ -125,21 +126,29 @@ fn every_call_agrees() {
     assert!(trial.met.calls() >= 200_000, "too few calls");
 }
 
-/// The comparison notices every number of the model being one too high or too low.
+/// The comparison notices every number of the model being one too high or too low, and every wrong model.
 #[test]
 fn a_damaged_model_is_caught() {
     let mut missed = Vec::new();
     let mut caught = 0;
+    let mut tried = |name: String, rules, wrong| {
+        let mut trial = Trial::new(rules, SEED);
+        trial.wrong = wrong;
+        match compare(&mut trial, &SMALL) {
+            Ok(()) => missed.push(name),
+            Err(_) => caught += 1,
+        }
+    };
     for by in [1, -1] {
         for place in 0.. {
             let Some((name, rules)) = damaged::rules(place, by) else {
                 break;
             };
-            match compare(&mut Trial::new(rules, SEED), &SMALL) {
-                Ok(()) => missed.push(name),
-                Err(_) => caught += 1,
-            }
+            tried(name, rules, None);
         }
+    }
+    for wrong in damaged::WRONG {
+        tried(format!("{wrong:?}"), Rules::in_force(), Some(wrong));
     }
     say(&format!("damaged models caught: {caught}"));
     assert!(missed.is_empty(), "not noticed: {missed:?}");

@@ -1,7 +1,8 @@
 //! Random market tests, biased to every branch of the rules, and what they met.
 
-use grain_model::{Certificate, Line, Phase, Station};
+use grain_model::{Certificate, Line, LinePhase, Station};
 
+use crate::history;
 use crate::lent::Difference;
 use crate::lists::{a_day, a_line, line_of, seen};
 use crate::met::Met;
@@ -148,6 +149,10 @@ pub fn market(trial: &mut Trial, subject: &mut Subject, ending: bool) -> Result<
     };
     let answer = trial.market(subject, request)?;
     let met = &mut trial.met;
+    // How a line came to its phase is known from its opening on.
+    if let (Some(_), Err(number)) = (&subject.book, answer) {
+        history::count_not_open(met, &subject.history, request, number);
+    }
     match gluten {
         true => count_gluten(met, &station, held, request, answer),
         false => count_line_figure(met, &station, held, request, answer),
@@ -191,7 +196,9 @@ fn count_gluten(
             "market: gluten's float refused, protein's not",
         ),
         Err(11) => count_gluten_corrected(met, line, request),
-        Err(12) => met.branch("market: gluten, line not open"),
+        Err(12) => met.branch("market: gluten, 12"),
+        Err(25) => met.branch("market: gluten, 25"),
+        Err(26) => met.branch("market: gluten, 26"),
         Err(13) => met.branch_if(
             age(line, request) == Some(8),
             "market: gluten, newest set 8 days old",
@@ -272,7 +279,7 @@ fn count_gluten_class(met: &mut Met, line: &Line, request: Request) {
         request.basis_kind == 0 && bad(request.floats[1]),
         "market: gluten's class before its float",
     );
-    met.branch_if(line.phase() != Phase::Open, BEFORE_OPEN);
+    met.branch_if(line.phase() != LinePhase::Open, BEFORE_OPEN);
 }
 
 /// Refused by 24.
@@ -290,7 +297,7 @@ fn count_gluten_basis(met: &mut Met, line: &Line, request: Request) {
         bad(request.floats[1]),
         "market: gluten's basis before its float",
     );
-    met.branch_if(line.phase() != Phase::Open, BEFORE_OPEN);
+    met.branch_if(line.phase() != LinePhase::Open, BEFORE_OPEN);
 }
 
 /// Refused by 11.
@@ -306,10 +313,46 @@ fn count_gluten_corrected(met: &mut Met, line: &Line, request: Request) {
         within && h < 0,
         "market: gluten's h below 0 where protein's wouldn't be",
     );
-    met.branch_if(
-        line.phase() != Phase::Open,
-        "market: gluten's h out of bounds before a line that isn't open",
-    );
+    match line.phase() {
+        LinePhase::Open => {}
+        LinePhase::New => met.branch("market: gluten's h out of bounds before 12"),
+        LinePhase::Adjusted => met.branch("market: gluten's h out of bounds before 25"),
+        LinePhase::Shut => met.branch("market: gluten's h out of bounds before 26"),
+    }
+}
+
+/// The line's value at B is above 10000: 14, where no other number comes first.
+pub fn too_high(station: &Station, line: &Line, request: Request) -> bool {
+    let standard = if station.row == 0 { 1200 } else { 0 };
+    let basis = match request.basis_kind {
+        0 => standard,
+        1 => 0,
+        _ => i64::from(request.basis),
+    };
+    let float = request.floats[request.line as usize % 3];
+    grain_model::reading(float).is_ok_and(|reading| {
+        (reading + line.intercept) * (10_000 - basis) > 10_000 * (10_000 - standard)
+    })
+}
+
+/// The numbers beside 12, 25 and 26 on a line that isn't open: 11 before them, 14 after them.
+fn count_beside(
+    met: &mut Met,
+    station: &Station,
+    line: &Line,
+    request: Request,
+    answer: Result<Certificate, u8>,
+) {
+    let high = too_high(station, line, request);
+    match (answer, line.phase()) {
+        (Err(11), LinePhase::New) => met.branch("market: 11 before 12"),
+        (Err(11), LinePhase::Adjusted) => met.branch("market: 11 before 25"),
+        (Err(11), LinePhase::Shut) => met.branch("market: 11 before 26"),
+        (Err(12), _) => met.branch_if(high, "market: 12, value at B above 10000"),
+        (Err(25), _) => met.branch_if(high, "market: 25, value at B above 10000"),
+        (Err(26), _) => met.branch_if(high, "market: 26, value at B above 10000"),
+        _ => {}
+    }
 }
 
 /// The branches of a market test that asks for the line's own figure.
@@ -320,8 +363,9 @@ fn count_line_figure(
     request: Request,
     answer: Result<Certificate, u8>,
 ) {
+    count_beside(met, station, line, request, answer);
     let age = age(line, request);
-    let fault = is_fault(request.scan_kind) && line.phase() != Phase::Open;
+    let fault = is_fault(request.scan_kind) && line.phase() != LinePhase::Open;
     let refused = |number| answer == Err(number);
     met.branch_if(
         refused(8) && fault,
@@ -352,7 +396,7 @@ fn count_line_figure(
         refused(9) && no_basis,
         "market: a float out of bounds before the kind of basis",
     );
-    let not_open = line.phase() != Phase::Open;
+    let not_open = line.phase() != LinePhase::Open;
     met.branch_if(
         refused(10) && no_basis && not_open,
         "market: the kind of basis before a line that isn't open",

@@ -14,17 +14,23 @@ const CALLS: &[(&str, &[usize])] = &[
     ("open", &[1]),
     ("sheet", &[0, 2, 3, 4, 5, 6, 7]),
     ("repair", &[0, 2]),
-    ("market", &[0, 2, 3, 8, 23, 24, 9, 10, 11, 12, 13, 14]),
+    (
+        "market",
+        &[0, 2, 3, 8, 23, 24, 9, 10, 11, 12, 25, 26, 13, 14],
+    ),
     ("chart open", &[1]),
     ("chart set", &[0, 19, 20, 21, 22]),
     ("chart text", &[15, 16, 17, 18, 19, 21, 22]),
 ];
 
+/// The refusal numbers are 0 to 26.
+const NUMBERS: usize = 27;
+
 /// How often a call was compared, and its answers.
 #[derive(Clone, Copy, Default)]
 struct Count {
     compared: u64,
-    refused: [u64; 25],
+    refused: [u64; NUMBERS],
 }
 
 /// The branches, each of which must be met. The generators and comparisons name them.
@@ -52,27 +58,36 @@ const BRANCHES: &[&str] = &[
     "sheet: some samples dropped",
     "sheet: shut, nothing kept, new line",
     "sheet: shut, nothing kept, open line",
-    "sheet: shut, nothing kept, check due line",
+    "sheet: shut, nothing kept, adjusted line",
+    "sheet: shut, nothing kept, shut line",
     "sheet: one exceeded",
     "sheet: two exceeded",
     "sheet: three exceeded",
     "sheet: five exceeded",
-    "sheet: check exceeded",
+    "sheet: check exceeded, adjusted line",
+    "sheet: check exceeded, shut line",
+    "sheet: check exceeded after a repair, adjusted line",
+    "sheet: check exceeded after a repair, shut line",
+    "sheet: check met after a repair, adjusted line",
+    "sheet: check met after a repair, shut line",
     "sheet: shut at the bound, one",
     "sheet: shut at the bound, two",
     "sheet: shut at the bound, three",
     "sheet: shut at the bound, five",
-    "sheet: shut at the bound, check",
+    "sheet: shut at the bound, check of an adjusted line",
+    "sheet: shut at the bound, check of a shut line",
     "sheet: adjusted to the bound itself",
     "sheet: average rounded at a half",
     "sheet: opens a new line",
     "sheet: joins an open line",
-    "sheet: opens a check due line",
+    "sheet: opens an adjusted line",
+    "sheet: opens a shut line",
     "sheet: at the one limit",
     "sheet: at the two limit",
     "sheet: at the three limit",
     "sheet: at the five limit",
-    "sheet: at the check limit",
+    "sheet: at the check limit, adjusted line",
+    "sheet: at the check limit, shut line",
     "sheet: oldest of four leaves",
     "sheet: zero breaks the five",
     "sheet: signs break the five",
@@ -105,7 +120,8 @@ const BRANCHES: &[&str] = &[
     // Repairs.
     "repair: new line",
     "repair: open line",
-    "repair: check due line",
+    "repair: adjusted line",
+    "repair: shut line",
     // Market tests.
     "market: certified, wheat",
     "market: certified, corn protein",
@@ -121,6 +137,36 @@ const BRANCHES: &[&str] = &[
     "market: h is 0",
     "market: h is 10000",
     "market: value at B is 10000",
+    // On a line that isn't open, by the way that led there.
+    "market: 12, fresh line",
+    "market: 12, fresh line repaired",
+    "market: 12, open line repaired",
+    "market: 12, line adjusted, opened and repaired",
+    "market: 12, line shut, opened and repaired",
+    "market: 25, new line adjusted",
+    "market: 25, open line adjusted",
+    "market: 25, adjusted line adjusted by its check",
+    "market: 25, shut line adjusted by its check",
+    "market: 25, adjusted line repaired",
+    "market: 26, nothing kept, new line",
+    "market: 26, nothing kept, open line",
+    "market: 26, nothing kept, adjusted line",
+    "market: 26, nothing kept, shut line",
+    "market: 26, nothing kept, repaired",
+    "market: 26, at the bound, new line",
+    "market: 26, at the bound, open line",
+    "market: 26, at the bound, adjusted line",
+    "market: 26, at the bound, shut line",
+    "market: 26, at the bound, repaired",
+    // Beside the numbers before and after.
+    "market: 25, newest sheet more than 7 days old",
+    "market: 26, newest sheet more than 7 days old",
+    "market: 12, value at B above 10000",
+    "market: 25, value at B above 10000",
+    "market: 26, value at B above 10000",
+    "market: 11 before 12",
+    "market: 11 before 25",
+    "market: 11 before 26",
     "market: fault on a line that isn't open",
     "market: other floats of the corn set damaged",
     "market: another grain's scan",
@@ -159,8 +205,12 @@ const BRANCHES: &[&str] = &[
     "market: gluten with a kind of basis that there isn't",
     "market: gluten, newest set 7 days old",
     "market: gluten, newest set 8 days old",
-    "market: gluten, line not open",
-    "market: gluten's h out of bounds before a line that isn't open",
+    "market: gluten, 12",
+    "market: gluten, 25",
+    "market: gluten, 26",
+    "market: gluten's h out of bounds before 12",
+    "market: gluten's h out of bounds before 25",
+    "market: gluten's h out of bounds before 26",
     "market: gluten's h is 0",
     "market: gluten's h is 10000",
     "market: gluten's h above 10000 where protein's wouldn't be",
@@ -176,12 +226,15 @@ const BRANCHES: &[&str] = &[
     "station: day above 99999",
     "station: day negative",
     "station: intercept out of bounds",
+    "station: phase 4, nothing held",
     "station: phase doesn't exist, nothing held",
     "station: phase doesn't exist, sets held",
     "station: held negative",
     "station: set's day negative",
     "station: open without a set",
-    "station: past set on a line that isn't open",
+    "station: past set on a new line",
+    "station: past set on an adjusted line",
+    "station: past set on a shut line",
     "station: more than four held",
     "station: days rise",
     "station: set after the station's day",
@@ -197,6 +250,7 @@ const BRANCHES: &[&str] = &[
     "station: hostile spare places, market test accepted",
     "station: a hostile spare set moves on",
     "station: a line that the row lacks keeps its phase in a repair",
+    "station: a line that the row lacks stays adjusted or shut in a repair",
     "station: a line that the row lacks is new after a repair",
     "station: any numbers",
     // Chart sets.
@@ -313,7 +367,8 @@ impl Met {
             };
             counts.extend(numbers.iter().map(refused));
         }
-        counts.extend((0..25).map(|number| (format!("refusal {number}"), self.refused(number))));
+        counts
+            .extend((0..NUMBERS).map(|number| (format!("refusal {number}"), self.refused(number))));
         let branches = BRANCHES
             .iter()
             .map(|name| ((*name).to_string(), self.branches[name]));

@@ -4,25 +4,41 @@ use grain::ffi;
 use grain_model as model;
 use grain_model::{Book, Certificate, Judged, Rules};
 
+use crate::damaged::Wrong;
 use crate::encode::{self, StationPlaces};
+use crate::history::{Event, History};
 use crate::lent::{Difference, Lent, same};
 use crate::met::Met;
 use crate::rng::Rng;
 
-/// What all comparisons share: the model's numbers, the random generator, the counts, and whether
-/// sheets are also given in another order.
+/// What all comparisons share: the model's numbers, what is wrong with the model, if anything, the
+/// random generator, the counts, and whether sheets are also given in another order.
 pub struct Trial {
     pub rules: Rules,
+    pub wrong: Option<Wrong>,
     pub rng: Rng,
     pub met: Met,
     pub orders: bool,
 }
 
-/// A station under comparison. One opened here is also kept as a book.
+/// A station under comparison. One opened here is also kept as a book. What its lines went through is
+/// there to count it.
 #[derive(Clone)]
 pub struct Subject {
     pub places: StationPlaces,
     pub book: Option<Book>,
+    pub history: [History; 3],
+}
+
+impl Subject {
+    /// A station that wasn't opened here.
+    pub fn handed_in(places: StationPlaces) -> Subject {
+        Subject {
+            places,
+            book: None,
+            history: Default::default(),
+        }
+    }
 }
 
 /// The arguments of a market test, as the C interface takes them.
@@ -195,6 +211,7 @@ impl Trial {
     pub fn new(rules: Rules, seed: u64) -> Trial {
         Trial {
             rules,
+            wrong: None,
             rng: Rng::new(seed),
             met: Met::new(),
             orders: false,
@@ -232,10 +249,9 @@ impl Trial {
             answer.map(|()| fresh),
         )?;
         self.met.call("open", answer.err());
-        let book = Some(Book::new(station.row));
         Ok(answer.is_ok().then_some(Subject {
-            places: fresh,
-            book,
+            book: Some(Book::new(station.row)),
+            ..Subject::handed_in(fresh)
         }))
     }
 
@@ -251,6 +267,47 @@ impl Trial {
         }
     }
 
+    /// The model's answer to a sheet, and the places after it; so of the calls below.
+    fn sheet_by_model(
+        &self,
+        before: &StationPlaces,
+        day: u32,
+        line: u64,
+        numbers: &[i32],
+    ) -> (Result<Judged, u8>, StationPlaces) {
+        let mut station = encode::station(before);
+        let answer = station.sheet(&self.rules, day, line, numbers);
+        if let (Some(wrong), Ok(judged)) = (self.wrong, &answer) {
+            wrong.sheet(before, &mut station, line, judged.verdict);
+        }
+        let after = Trial::after(before, &station, &answer);
+        (answer, after)
+    }
+
+    fn repair_by_model(&self, before: &StationPlaces, day: u32) -> (Result<(), u8>, StationPlaces) {
+        let mut station = encode::station(before);
+        let answer = station.repair(&self.rules, day);
+        if let (Some(wrong), Ok(())) = (self.wrong, answer) {
+            wrong.repair(before, &mut station);
+        }
+        (answer, Trial::after(before, &station, &answer))
+    }
+
+    fn market_by_model(
+        &self,
+        before: &StationPlaces,
+        request: Request,
+    ) -> (Result<Certificate, u8>, StationPlaces) {
+        let mut station = encode::station(before);
+        let (scan, asked, basis) = (request.scan(), request.asked(), request.basis());
+        let answer = station.market(&self.rules, request.day, request.line, scan, asked, basis);
+        let answer = answer.map_err(|number| match self.wrong {
+            Some(wrong) => wrong.number(before, request, number),
+            None => number,
+        });
+        (answer, Trial::after(before, &station, &answer))
+    }
+
     pub fn sheet(
         &mut self,
         subject: &mut Subject,
@@ -259,9 +316,7 @@ impl Trial {
         numbers: &[i32],
     ) -> Result<Result<Judged, u8>, Difference> {
         let before = subject.places;
-        let mut station = encode::station(&before);
-        let answer = station.sheet(&self.rules, day, line, numbers);
-        let after = Trial::after(&before, &station, &answer);
+        let (answer, after) = self.sheet_by_model(&before, day, line, numbers);
         let told = answer.map(|judged| judged.outcome);
         let what = || format!("sheet on day {day}, line {line}, {numbers:?} of {before:?}");
 
@@ -296,6 +351,14 @@ impl Trial {
             )?;
         }
         self.met.call("sheet", answer.err());
+        if let Ok(judged) = answer {
+            let before = encode::station(&before).lines[line as usize].phase();
+            subject.history[line as usize].push(Event::Sheet {
+                day: day.into(),
+                before,
+                verdict: judged.verdict,
+            });
+        }
         subject.places = after;
         Ok(answer)
     }
@@ -306,9 +369,7 @@ impl Trial {
         day: u32,
     ) -> Result<Result<(), u8>, Difference> {
         let before = subject.places;
-        let mut station = encode::station(&before);
-        let answer = station.repair(&self.rules, day);
-        let after = Trial::after(&before, &station, &answer);
+        let (answer, after) = self.repair_by_model(&before, day);
         let what = || format!("repair on day {day} of {before:?}");
 
         let mut state = Lent::of(&mut self.rng, &before);
@@ -328,6 +389,11 @@ impl Trial {
             )?;
         }
         self.met.call("repair", answer.err());
+        if answer.is_ok() {
+            for history in &mut subject.history {
+                history.push(Event::Repair);
+            }
+        }
         subject.places = after;
         Ok(answer)
     }
@@ -338,11 +404,9 @@ impl Trial {
         request: Request,
     ) -> Result<Result<Certificate, u8>, Difference> {
         let before = subject.places;
-        let mut station = encode::station(&before);
         let (day, line) = (request.day, request.line);
         let (scan, asked, basis) = (request.scan(), request.asked(), request.basis());
-        let answer = station.market(&self.rules, day, line, scan, asked, basis);
-        let after = Trial::after(&before, &station, &answer);
+        let (answer, after) = self.market_by_model(&before, request);
         let what = || format!("market test {request:?} of {before:?}");
 
         let mut state = Lent::of(&mut self.rng, &before);

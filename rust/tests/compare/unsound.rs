@@ -1,12 +1,13 @@
 //! Stations and charts handed in that no call has handed back: one thing wrong, or any numbers.
 
 use grain_model::station::BLANK;
-use grain_model::{Chart, ChartSet, Line, PastSet, Phase, Station, chart};
+use grain_model::{Chart, ChartSet, Line, LinePhase, PastSet, Station, chart};
 
 use crate::charts;
 use crate::encode::{self, ChartPlaces, StationPlaces};
 use crate::lent::Difference;
 use crate::lists;
+use crate::met::Met;
 use crate::rng::Rng;
 use crate::stations::{Subject, Trial};
 
@@ -48,7 +49,10 @@ const EDGES: [i32; 34] = [
     i32::MAX,
 ];
 
-/// A sound station whose row's lines are open with two to four sets each.
+/// The phases that hold no set.
+const NOT_OPEN: [LinePhase; 3] = [LinePhase::New, LinePhase::Adjusted, LinePhase::Shut];
+
+/// A sound station whose row's lines are mostly open with two to four sets each.
 pub fn sound_station(rng: &mut Rng) -> Station {
     let row = rng.range(0, 1);
     let samples = if row == 0 { 6 } else { 4 };
@@ -61,11 +65,11 @@ pub fn sound_station(rng: &mut Rng) -> Station {
             0 => rng.pick(&[-1000, -500, 500, 1000]),
             _ => rng.range(-1000, 1000),
         };
-        if rng.chance(20) {
-            line.phase = rng.pick(&[Phase::New, Phase::CheckDue]).code();
+        if rng.chance(25) {
+            line.phase = rng.pick(&NOT_OPEN).code();
             continue;
         }
-        line.phase = Phase::Open.code();
+        line.phase = LinePhase::Open.code();
         let mut day = (station.day - 60).max(0);
         for _ in 0..rng.range(2, 4) {
             day = match rng.chance(50) {
@@ -91,6 +95,10 @@ const WRONG_LINES: &[Wrong<(Line, i64, i64)>] = &[
     ("station: intercept out of bounds", |rng, (line, ..)| {
         line.intercept = rng.pick(&[-1001, 1001, i32::MIN.into(), i32::MAX.into()]);
     }),
+    ("station: phase 4, nothing held", |_, (line, ..)| {
+        line.phase = 4;
+        line.empty();
+    }),
     (
         "station: phase doesn't exist, nothing held",
         |rng, (line, ..)| {
@@ -110,17 +118,21 @@ const WRONG_LINES: &[Wrong<(Line, i64, i64)>] = &[
         line.held = rng.pick(&[-1, -4, i32::MIN.into(), i64::from(i32::MIN) + 1]);
     }),
     ("station: open without a set", |_, (line, ..)| {
-        line.phase = Phase::Open.code();
+        line.phase = LinePhase::Open.code();
         line.held = 0;
     }),
+    ("station: past set on a new line", |rng, (line, ..)| {
+        *line = with_sets(rng, LinePhase::New);
+    }),
     (
-        "station: past set on a line that isn't open",
+        "station: past set on an adjusted line",
         |rng, (line, ..)| {
-            let held = rng.range(1, 4);
-            *line = open_line(rng, held);
-            line.phase = rng.pick(&[Phase::New, Phase::CheckDue]).code();
+            *line = with_sets(rng, LinePhase::Adjusted);
         },
     ),
+    ("station: past set on a shut line", |rng, (line, ..)| {
+        *line = with_sets(rng, LinePhase::Shut);
+    }),
     ("station: more than four held", |rng, (line, ..)| {
         *line = open_line(rng, 4);
         line.held = rng.pick(&[5, 6, 1 << 16, 65_540, i32::MAX.into()]);
@@ -169,15 +181,26 @@ const WRONG_LINES: &[Wrong<(Line, i64, i64)>] = &[
 
 /// A number that stands for no phase.
 fn no_phase(rng: &mut Rng) -> i64 {
-    let codes = [-1, 3, 4, 256, 257, 65_537, i32::MIN.into(), i32::MAX.into()];
+    let near = [-1, -2, 4, 5, 255, 256];
+    let far = [257, 258, 259, 65_537, i32::MIN.into(), i32::MAX.into()];
+    let codes = rng.pick(&[near, far]);
     rng.pick(&codes)
+}
+
+/// A line of another phase that holds the sets of an open one.
+fn with_sets(rng: &mut Rng, phase: LinePhase) -> Line {
+    let held = rng.range(1, 4);
+    Line {
+        phase: phase.code(),
+        ..open_line(rng, held)
+    }
 }
 
 /// A sound open line whose sets are of day 0.
 fn open_line(rng: &mut Rng, held: i64) -> Line {
     let mut line = Line {
         intercept: rng.range(-1000, 1000),
-        phase: Phase::Open.code(),
+        phase: LinePhase::Open.code(),
         ..Line::FRESH
     };
     for _ in 0..held {
@@ -229,7 +252,7 @@ pub fn unsound_station(trial: &mut Trial) -> Result<(), Difference> {
 
 /// A call on a station that isn't kept as a book.
 fn on_station(trial: &mut Trial, places: StationPlaces) -> Result<(), Difference> {
-    lists::single(trial, &mut Subject { places, book: None })
+    lists::single(trial, &mut Subject::handed_in(places))
 }
 
 /// A sound station whose spare places hold anything, and a few calls on it.
@@ -252,7 +275,7 @@ pub fn spare_places(trial: &mut Trial) -> Result<(), Difference> {
         }
     }
     let places = encode::station_places(&station);
-    let mut subject = Subject { places, book: None };
+    let mut subject = Subject::handed_in(places);
     for _ in 0..6 {
         beside_spare_places(trial, &mut subject, lines)?;
     }
@@ -289,17 +312,26 @@ fn beside_spare_places(
                 && then.past[held + 1] == line.past[held];
             met.branch_if(moves_on, "station: a hostile spare set moves on");
         } else if repair {
-            met.branch_if(
-                !(0..=2).contains(&line.phase) && then.phase == line.phase,
-                "station: a line that the row lacks keeps its phase in a repair",
-            );
-            met.branch_if(
-                line.phase == 1 && then.phase == 0,
-                "station: a line that the row lacks is new after a repair",
-            );
+            count_spare_line(met, line, then);
         }
     }
     Ok(())
+}
+
+/// A line that the row lacks, before and after a repair.
+fn count_spare_line(met: &mut Met, line: &Line, then: &Line) {
+    met.branch_if(
+        !(0..=3).contains(&line.phase) && then.phase == line.phase,
+        "station: a line that the row lacks keeps its phase in a repair",
+    );
+    met.branch_if(
+        (2..=3).contains(&line.phase) && then.phase == line.phase,
+        "station: a line that the row lacks stays adjusted or shut in a repair",
+    );
+    met.branch_if(
+        line.phase == 1 && then.phase == 0,
+        "station: a line that the row lacks is new after a repair",
+    );
 }
 
 /// One place of a sound station overwritten with a number beside some edge.

@@ -1,6 +1,6 @@
 use mathlib.Core.Path.{_∙_, ap}
 use mathlib.Core.List.{List}
-use lib.IntN.{ℤ, pos, _+ℤ_}
+use lib.IntN.{ℤ, _+ℤ_}
 use lib.ListN.{set}
 use native.Mathlib.Omega.{arith}
 use Rattle.whole.specs.Parts.{up, down}
@@ -43,8 +43,8 @@ returns c =
     let s = n .before .before in
     let w = s .args .part .now in
     c .before .empty .ensures
-    ∙ ap emptied (p2 .put2 .ensures ∙ ap (λ (x : List ℤ). set x 1 (pos 2)) (p .put .ensures ∙ ap (set w 0) (a .add .ensures .is ∙ ap (λ (z : ℤ). z +ℤ s .args .change .z) (n .number-at .ensures))))
-    ∙ closes w (s .pre .0) _ (pos 2)
+    ∙ ap emptied (p2 .put2 .ensures ∙ ap (λ (x : List ℤ). set x 1 (s .args .phase .z)) (p .put .ensures ∙ ap (set w 0) (a .add .ensures .is ∙ ap (λ (z : ℤ). z +ℤ s .args .change .z) (n .number-at .ensures))))
+    ∙ closes w (s .pre .0) _ (s .args .phase .z)
 
 pub close-spec : {M : Type 1} → statement M
 close-spec =

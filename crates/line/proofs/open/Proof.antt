@@ -39,7 +39,7 @@ returns-2 c =
     let s = i .before .before .before in
     let n = i .before .natural-at .ensures in
     let h = i .if1 .left in
-    c .before .begin .ensures ∙ late (λ (x : LinePhase). openedPlaces x (s .args .part .now) (s .args .p)) (lineIn (s .args .part .now) .phase) (omega arith)
+    c .before .begin .ensures ∙ late (λ (x : LinePhase). openedPlaces x (s .args .part .now) (s .args .p)) refl (lineIn (s .args .part .now) .phase) (omega arith)
 
 pub open-spec : {M : Type 1} → statement M
 open-spec =

@@ -27,7 +27,7 @@ returns-2 : tie.Need-returns-2
 unfolding testsBy
 returns-2 c =
     let s = c .before .before in
-    (c .check .ensures .0 ∙ late (found s) (s .args .phase) (c .before .if1 .left), c .check .ensures .1)
+    (c .check .ensures .0 ∙ late (found s) refl (s .args .phase) (c .before .if1 .left), c .check .ensures .1)
 
 pub first-exceeded-spec : {M : Type 1} → statement M
 first-exceeded-spec = tie.close (tie.spec one-set-requires check-requires returns returns-2)

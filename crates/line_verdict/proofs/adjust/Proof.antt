@@ -2,8 +2,7 @@ use mathlib.Core.Path.{_∙_, sym, subst}
 use native.Mathlib.Omega.{arith}
 use Rattle.whole.specs.Parts.{Within}
 use Rattle.whole.proofs.Read.{back-in}
-use Rattle.line_verdict.proofs.VerdictLaws.{shut-small, adjust-yes, adjust-no}
-use borrow.Author.Needs.{needs}
+use Rattle.line_verdict.proofs.VerdictLaws.{adjust-yes, adjust-no}
 use Rattle.line_verdict.proofs.adjust.Statement.{statement}
 use Rattle.line_verdict.proofs.adjust.Tie as tie
 
@@ -15,9 +14,6 @@ size-at-most-requires c κs = omega arith
 
 neg-requires : tie.Need-neg-requires
 neg-requires c κs = let w = c .before .before .before .pre .1 in omega arith
-
-shut-requires : tie.Need-shut-requires
-shut-requires c κs = search needs
 
 returns : tie.Need-returns
 returns c =
@@ -32,12 +28,11 @@ returns c =
 
 returns-2 : tie.Need-returns-2
 returns-2 c =
-    let s = c .before .before .before .before in
-    let e = c .shut .ensures in (
-      e ∙ adjust-no (s .args .intercept .z) (s .args .average .z) (c .before .before .before .sub .ensures .is) (c .before .before .size-at-most .ensures) (c .before .if1 .left),
-      shut-small e,
+    let s = c .before .before .before in (
+      adjust-no (s .args .intercept .z) (s .args .average .z) (c .before .before .sub .ensures .is) (c .before .size-at-most .ensures) (c .if1 .left),
+      omega arith,
     )
 
 pub adjust-spec : {M : Type 1} → statement M
 adjust-spec =
-    tie.close (tie.spec sub-requires size-at-most-requires neg-requires shut-requires returns returns-2)
+    tie.close (tie.spec sub-requires size-at-most-requires neg-requires returns returns-2)

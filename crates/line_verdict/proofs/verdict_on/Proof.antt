@@ -9,7 +9,7 @@ use Rattle.station_rules.specs.Lines.{adjustBy}
 use Rattle.station_rules.specs.declared.Test.{Test}
 use Rattle.line_averages.specs.Ranges.{TestFits, FoundFits}
 use Rattle.line_past.proofs.RangeLaws.{held-less}
-use Rattle.line_verdict.proofs.VerdictLaws.{shut-small, verdict-shut, verdict-by, some-of}
+use Rattle.line_verdict.proofs.VerdictLaws.{verdict-shut, verdict-by, some-of}
 use borrow.Author.Needs.{needs}
 use Rattle.line_verdict.proofs.verdict_on.Statement.{statement}
 use Rattle.line_verdict.proofs.verdict_on.Tie as tie
@@ -20,14 +20,10 @@ found c = c .before .t .given .0 .0
 fits : (c : tie.After-known-told) → TestFits (found c)
 fits c = subst FoundFits (c .before .t .given .1) (c .before .before .before .first-exceeded .ensures .1)
 
-shut-requires : tie.Need-shut-requires
-shut-requires c κs = search needs
-
 returns : tie.Need-returns
 returns c =
-    let s = c .before .before .before .args in
-    let e = c .shut .ensures in
-    (e ∙ verdict-shut (s .limits) (s .l) (s .day) (s .set) (c .before .if1 .taken), shut-small e)
+    let s = c .before .before .args in
+    (verdict-shut (s .limits) (s .l) (s .day) (s .set) (c .if1 .taken), omega arith)
 
 cast-valid-count : tie.Need-cast-valid-count
 cast-valid-count c = search needs
@@ -101,7 +97,6 @@ pub verdict-on-spec : {M : Type 1} → statement M
 verdict-on-spec =
     tie.close
     (tie.spec
-    shut-requires
     returns
     cast-valid-count
     valid-count-requires

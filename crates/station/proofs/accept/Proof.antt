@@ -4,15 +4,16 @@ use Prim.Native.Nat.{ℕ, _<_}
 use native.Mathlib.Omega.{arith}
 use lib.IntN.{ℤ}
 use lib.ListN.{length}
+use mir.Syntax.{w32}
+use mir.Val.{SFits}
 use Rattle.whole.specs.Parts.{Within}
-use Rattle.whole.proofs.Read.{rd, back-in}
+use Rattle.whole.proofs.Read.{rd, back, back-in}
 use Rattle.station_rules.specs.Rows.{limitsOf}
-use Rattle.station_rules.specs.Lines.{verdictOf}
-use Rattle.station_rules.specs.Held.{Station, lineValues, phaseHeld}
+use Rattle.station_rules.specs.Lines.{verdictOf, changeOf}
+use Rattle.station_rules.specs.Held.{Station, lineValues, phaseSaid}
 use Rattle.station_rules.specs.Stations.{lineOf, valuesOf}
 use Rattle.station_rules.specs.Places.{linePlaces, stationIn}
 use Rattle.station_rules.specs.InPlace.{sheetLine, withDay, withLine}
-use Rattle.station_rules.specs.declared.Verdict.{Verdict}
 use Rattle.station_rules.specs.declared.SheetAnswer.{SheetAnswer}
 use Rattle.station_rules.proofs.RowFacts.{row-facts}
 use Rattle.station_rules.proofs.InPlace.{all-places, line-full, sheet-full, line-written}
@@ -93,8 +94,14 @@ put-day-requires c κs =
     let at-line-of = at-verdict-on .before .before .before .before in
     (entered-47 (c .before .before), at-line-of .before .before .pre .today)
 
-phase-after-requires : tie.Need-phase-after-requires
-phase-after-requires c κs = search needs
+change-of-requires : tie.Need-change-of-requires
+change-of-requires c κs = search needs
+
+phase-said-requires : tie.Need-phase-said-requires
+phase-said-requires c κs = search needs
+
+bare-requires : tie.Need-bare-requires
+bare-requires c κs = search needs
 
 same-length : tie.Need-same-length
 same-length c = search needs
@@ -102,7 +109,9 @@ same-length c = search needs
 returns : tie.Need-returns
 unfolding acceptedIn
 returns c =
-    let d = c .before .before .before .before in
+    let b = c .before in
+    let h = b .before .before in
+    let d = h .before .before in
     let n = d .before .before .before in
     let v = n .before .before .before in
     let at-line-of = v .before .before .before .before in
@@ -111,13 +120,13 @@ returns c =
     let line = s .args .line in
     let e = verdict v in
     let f = back-in (s .pre .fits .within) tt tt in
-    let b = back-in (v .verdict-on .ensures .1) tt tt in
+    let g : SFits w32 (b .bare .result) = search needs in
     λ i. record {
       answer = SheetAnswer.Accepted (record {
         sum = f .is i;
         count = s .args .set .count;
-        phase = (c .before .before .phase-after .ensures ∙ ap phaseHeld e) i;
-        change = (b .is ∙ ap (λ (x : Verdict). x .change) e) i;
+        phase = (b .before .phase-said .ensures ∙ ap phaseSaid e) i;
+        change = (back g .is ∙ b .bare .ensures ∙ h .change-of .ensures ∙ ap changeOf e) i;
       });
       places = (d .put-day .ensures
           ∙ ap (λ (x : List ℤ). withDay x (s .args .day))
@@ -134,6 +143,8 @@ accept-spec =
     verdict-on-requires
     enter-sheet-requires
     put-day-requires
-    phase-after-requires
+    change-of-requires
+    phase-said-requires
+    bare-requires
     same-length
     returns)

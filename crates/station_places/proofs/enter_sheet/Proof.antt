@@ -4,6 +4,7 @@ use lib.IntN.{ℤ}
 use lib.ListN.{length, take, drop}
 use Rattle.whole.specs.Parts.{Within}
 use Rattle.whole.specs.Places.{place}
+use Rattle.station_rules.specs.Lines.{changeOf}
 use Rattle.station_rules.specs.Places.{lineIn, lineStart}
 use Rattle.station_rules.specs.InPlace.{sheetLine, withLine}
 use Rattle.station_rules.proofs.InPlace.{line-full}
@@ -43,7 +44,7 @@ enter-sheet-requires c κs =
     subst⁻¹
     (λ (k : ℕ). (length (take k (drop (lineStart line) w)) ≡ 15)
     × (((lineIn (take k (drop (lineStart line) w)) .held ≤ 4) × SetFits (s .args .p))
-    × ((Within 1000 1000 (place (take k (drop (lineStart line) w)) 0)) × (Within 2000000 2000000 (s .args .v .change)))))
+    × ((Within 1000 1000 (place (take k (drop (lineStart line) w)) 0)) × (Within 2000000 2000000 (changeOf (s .args .v))))))
     (fifteen (lineStart line)) (
       line-full w (s .pre .0 .0) line here,
       (
