@@ -1,5 +1,5 @@
 /* The core beside plain C: first both are given random and hostile calls, a sheet also with its samples in another order,
- * and every byte of their answers and states is compared; then they are timed.
+ * every day and date of the calendar, and every byte of their answers and states is compared; then they are timed.
  *
  *     cc -O2 -Iinclude bench/bench.c bench/plain.c target/staticlib/libabi.a -o target/bench
  *     target/bench          21 rounds after one to warm up
@@ -30,12 +30,23 @@ struct side {
     struct grain_answer (*chart_open)(struct grain_chart *, uint64_t);
     struct grain_charted (*chart_set)(struct grain_chart *, uint32_t, const int32_t *, size_t, uint8_t *, size_t);
     struct grain_written (*chart_text)(const uint8_t *, size_t, uint8_t *, size_t);
+    struct grain_day (*day_from_date)(uint32_t, uint32_t, uint32_t);
+    struct grain_date (*date_from_day)(uint32_t);
+    struct grain_weekday (*weekday_of_day)(uint32_t);
+    struct grain_day (*working_day)(uint32_t, uint32_t, const int32_t *, size_t);
+    struct grain_day (*results_due)(uint32_t, const int32_t *, size_t);
 };
 
-static const struct side core = {grain_reading, grain_open,       grain_sheet,     grain_repair,
-                                 grain_market,  grain_chart_open, grain_chart_set, grain_chart_text};
-static const struct side plain = {plain_reading, plain_open,       plain_sheet,     plain_repair,
-                                  plain_market,  plain_chart_open, plain_chart_set, plain_chart_text};
+static const struct side core = {
+    grain_reading,        grain_open,        grain_sheet,       grain_repair,        grain_market,
+    grain_chart_open,     grain_chart_set,   grain_chart_text,  grain_day_from_date, grain_date_from_day,
+    grain_weekday_of_day, grain_working_day, grain_results_due,
+};
+static const struct side plain = {
+    plain_reading,        plain_open,        plain_sheet,       plain_repair,        plain_market,
+    plain_chart_open,     plain_chart_set,   plain_chart_text,  plain_day_from_date, plain_date_from_day,
+    plain_weekday_of_day, plain_working_day, plain_results_due,
+};
 
 static void fail(const char *why)
 {
@@ -144,9 +155,9 @@ static size_t fill_text(uint8_t *text, size_t least)
 
 /* ---- The comparison ---- */
 
-enum { CALLS = 200000, TEXTS = 20000, GUARD = 16 };
+enum { CALLS = 200000, TEXTS = 20000, GUARD = 16, KINDS = 13, NUMBERS = 29 };
 
-static uint64_t gluten_certified, compared, accepted[8], refused[27], moved_accepted, moved_refused[8];
+static uint64_t gluten_certified, compared, accepted[KINDS], refused[NUMBERS], moved_accepted, moved_refused[8];
 static uint64_t adjusted, shut_nothing_kept, shut_at_bound; /* lines, by sheets */
 
 /* Counts an answer; its first two words are accepted and number. */
@@ -486,16 +497,105 @@ static void compare_readings(void)
     }
 }
 
-static void compare(void)
+static void compare_date(uint32_t year, uint32_t month, uint32_t day)
 {
-    static const char *const calls[8] = {"reading",     "opening",       "sheet", "repair",
-                                         "market test", "chart opening", "set",   "text"};
-    seed = 1;
-    compare_readings();
-    compare_stations();
-    compare_charts();
-    compare_texts();
-    for (int i = 0; i < 8; i++)
+    struct grain_day one = core.day_from_date(year, month, day), other = plain.day_from_date(year, month, day);
+    same("a date's day", &one, &other, sizeof one);
+    count(8, &one);
+}
+
+/* A day's date, which must turn back into the day, and its weekday. */
+static void compare_day(uint32_t day)
+{
+    struct grain_date one = core.date_from_day(day), other = plain.date_from_day(day);
+    same("a day's date", &one, &other, sizeof one);
+    count(9, &one);
+    struct grain_weekday weekday = core.weekday_of_day(day), by_plain = plain.weekday_of_day(day);
+    same("a weekday", &weekday, &by_plain, sizeof weekday);
+    count(10, &weekday);
+    if (one.accepted && core.day_from_date(one.year, one.month, one.day).day != day)
+        fail("a date does not come back");
+}
+
+/* Every day, and every date of 1998 to 2276 with months and days beside their bounds; then any numbers. */
+static void compare_dates(void)
+{
+    for (uint32_t day = 0; day <= GRAIN_LAST_DAY + 100; day++)
+        compare_day(day);
+    for (uint32_t year = 1998; year <= 2276; year++)
+        for (uint32_t month = 0; month <= 13; month++)
+            for (uint32_t day = 0; day <= 32; day++)
+                compare_date(year, month, day);
+    for (int i = 0; i < CALLS / 10; i++) {
+        uint32_t any = one_in(2) ? (uint32_t)edge() : (uint32_t)bits(), other = one_in(2) ? (uint32_t)edge() : 1;
+        compare_day(any);
+        compare_date(any, other, 1);
+        compare_date(2000, any, other);
+        compare_date(2000, other, any);
+    }
+}
+
+/* Holidays near a day, or all over the calendar; sometimes with a bad one. */
+static size_t fill_holidays(int32_t *holidays, uint32_t near)
+{
+    int32_t middle = near > GRAIN_LAST_DAY ? GRAIN_LAST_DAY : (int32_t)near, most = range(0, 9);
+    bool all = one_in(500);
+    int32_t first = all ? 0 : middle - range(0, 40), last = all ? GRAIN_LAST_DAY : middle + range(0, 80);
+    size_t length = 0;
+    for (int32_t day = first < 0 ? 0 : first; day <= last && day <= GRAIN_LAST_DAY; day++)
+        if (range(1, 10) <= most)
+            holidays[length++] = day;
+    if (length && one_in(8))
+        holidays[bits() % length] = one_in(2) ? edge() : holidays[length - 1];
+    if (one_in(12))
+        holidays[length++] = edge();
+    return length;
+}
+
+static uint32_t some_count(uint32_t day)
+{
+    switch (range(0, 9)) {
+    case 0:
+        return 0;
+    case 1:
+        return (uint32_t)bits() >> range(0, 31);
+    case 2: /* to the calendar's end, in weeks of five days */
+        return (GRAIN_LAST_DAY - day) / 7 * 5 + (uint32_t)range(0, 6);
+    default:
+        return (uint32_t)range(1, 40);
+    }
+}
+
+static void compare_working_days(void)
+{
+    static int32_t holidays[GRAIN_LAST_DAY + 3], copy[GRAIN_LAST_DAY + 3];
+    for (int i = 0; i < CALLS; i++) {
+        uint32_t day = one_in(10)  ? (uint32_t)edge()
+                       : one_in(5) ? (uint32_t)range(GRAIN_LAST_DAY - 50, GRAIN_LAST_DAY + 1)
+                                   : (uint32_t)range(0, GRAIN_LAST_DAY);
+        size_t length = fill_holidays(holidays, day), size = (length + 1) * sizeof holidays[0];
+        holidays[length] = (int32_t)bits();
+        memcpy(copy, holidays, size);
+        const int32_t *lent = length ? holidays : NULL;
+        if (one_in(4)) {
+            struct grain_day one = core.results_due(day, lent, length), other = plain.results_due(day, copy, length);
+            same("results due", &one, &other, sizeof one);
+            count(12, &one);
+        } else {
+            uint32_t working = some_count(day);
+            struct grain_day one = core.working_day(day, working, lent, length);
+            struct grain_day other = plain.working_day(day, working, copy, length);
+            same("a working day", &one, &other, sizeof one);
+            count(11, &one);
+        }
+        same("the holidays", holidays, copy, size);
+    }
+}
+
+/* Every call was accepted and every number met. */
+static void all_met(const char *const calls[KINDS])
+{
+    for (int i = 0; i < KINDS; i++)
         if (!accepted[i]) {
             fprintf(stderr, "bench: no %s was accepted\n", calls[i]);
             exit(1);
@@ -504,11 +604,27 @@ static void compare(void)
         fail("no gluten was certified");
     if (!adjusted || !shut_nothing_kept || !shut_at_bound)
         fail("no line was adjusted, or none was shut in one of the two ways");
-    for (int i = 0; i < 27; i++)
+    for (int i = 0; i < NUMBERS; i++)
         if (!refused[i]) {
             fprintf(stderr, "bench: number %d was never met\n", i);
             exit(1);
         }
+}
+
+static void compare(void)
+{
+    static const char *const calls[KINDS] = {
+        "reading", "opening",       "sheet",         "repair",  "market test", "chart opening", "set",
+        "text",    "day from date", "date from day", "weekday", "working day", "results due",
+    };
+    seed = 1;
+    compare_readings();
+    compare_stations();
+    compare_charts();
+    compare_texts();
+    compare_dates();
+    compare_working_days();
+    all_met(calls);
     uint64_t moved = moved_accepted;
     if (!moved_accepted)
         fail("no sheet was accepted in another order");
@@ -520,7 +636,7 @@ static void compare(void)
     }
     printf("%" PRIu64 " calls compared, %" PRIu64 " of them sheets in another order, no difference; ", compared, moved);
     printf("every refusal met; accepted:");
-    for (int i = 0; i < 8; i++)
+    for (int i = 0; i < KINDS; i++)
         printf("%s %s %" PRIu64, i ? "," : "", calls[i], accepted[i]);
     printf("\n");
 }
@@ -549,7 +665,7 @@ typedef uint64_t work(double *seconds);
         return name(&plain, seconds); \
     }
 
-enum { INPUTS = 2000 };
+enum { INPUTS = 2000, HOLIDAYS = 60 };
 
 static int32_t the_row;
 static struct grain_station the_station;
@@ -571,6 +687,10 @@ static struct {
 } sets[INPUTS];
 static uint8_t the_text[70000], the_output[GRAIN_OUTPUT_BYTES];
 static size_t text_length;
+static struct grain_date dates[INPUTS];
+static uint32_t days[INPUTS], starts[INPUTS], counts[INPUTS];
+static int32_t the_holidays[HOLIDAYS];
+static size_t holidays_length;
 
 static int samples_of(int32_t row)
 {
@@ -800,6 +920,66 @@ WORK(text_work)
 }
 FOR_BOTH(text_work)
 
+/* Eleven holidays a year from 2024 on, some of them on weekends; days and dates of the whole calendar, and days among the
+ * holidays to count from. */
+static void make_dates(void)
+{
+    static const uint32_t fixed[11][2] = {{1, 1}, {1, 19},  {2, 16},  {5, 25},  {6, 19}, {7, 4},
+                                          {9, 7}, {10, 12}, {11, 11}, {11, 26}, {12, 25}};
+    for (uint32_t i = 0; i < HOLIDAYS; i++) {
+        const uint32_t *date = fixed[i % 11];
+        the_holidays[i] = (int32_t)plain.day_from_date(2024 + i / 11, date[0], date[1]).day;
+    }
+    for (int i = 0; i < INPUTS; i++) {
+        days[i] = (uint32_t)range(0, GRAIN_LAST_DAY);
+        dates[i] = plain.date_from_day(days[i]);
+        starts[i] = (uint32_t)range(the_holidays[0], the_holidays[HOLIDAYS - 1]);
+        counts[i] = (uint32_t)range(1, 10);
+    }
+}
+
+WORK(days_work)
+{
+    uint64_t sum = 0;
+    double start = now();
+    for (int pass = 0; pass < 100; pass++)
+        for (int i = 0; i < INPUTS; i++) {
+            struct grain_day d = side->day_from_date(dates[i].year, dates[i].month, dates[i].day);
+            sum += d.accepted + d.day;
+        }
+    *seconds += now() - start;
+    return sum;
+}
+FOR_BOTH(days_work)
+
+WORK(dates_work)
+{
+    uint64_t sum = 0;
+    double start = now();
+    for (int pass = 0; pass < 100; pass++)
+        for (int i = 0; i < INPUTS; i++) {
+            struct grain_date d = side->date_from_day(days[i]);
+            sum += d.accepted + d.year + d.month + d.day;
+        }
+    *seconds += now() - start;
+    return sum;
+}
+FOR_BOTH(dates_work)
+
+WORK(working_days_work)
+{
+    uint64_t sum = 0;
+    double start = now();
+    for (int pass = 0; pass < 60; pass++)
+        for (int i = 0; i < INPUTS; i++) {
+            struct grain_day d = side->working_day(starts[i], counts[i], the_holidays, holidays_length);
+            sum += d.accepted + d.day;
+        }
+    *seconds += now() - start;
+    return sum;
+}
+FOR_BOTH(working_days_work)
+
 enum { MOST_ROUNDS = 1000 };
 
 static int rounds = 21;
@@ -847,6 +1027,17 @@ static void row(const char *name, work *core_work, work *plain_work, double unit
 
 #define ROW(name, work, units, unit) row(name, core_##work, plain_##work, units, unit)
 
+static void time_calendar(void)
+{
+    make_dates();
+    ROW("days from dates", days_work, 100.0 * INPUTS, "a call");
+    ROW("dates from days", dates_work, 100.0 * INPUTS, "a call");
+    holidays_length = 0;
+    ROW("working days, no holiday", working_days_work, 60.0 * INPUTS, "a call");
+    holidays_length = HOLIDAYS;
+    ROW("working days, 60 holidays", working_days_work, 60.0 * INPUTS, "a call");
+}
+
 int main(int argc, char **argv)
 {
     if (argc > 1)
@@ -880,5 +1071,6 @@ int main(int argc, char **argv)
     ROW("chart sets", sets_work, 20.0 * INPUTS, "a call");
     make_text();
     ROW("chart text", text_work, 15.0 * (double)text_length, "a byte");
+    time_calendar();
     return 0;
 }

@@ -639,3 +639,115 @@ struct grain_written plain_chart_text(const uint8_t *restrict text, size_t text_
         return refused_text(22, 0);
     return go_through(text, text_len, out);
 }
+
+/* ---- The calendar ---- */
+
+enum { FIRST_YEAR = 2000, LAST_YEAR = 2273, WEEK = 7, WORKING_WEEK = 5 };
+
+/* Days of a year before each month, and of the whole year; of a leap year below. */
+static const uint32_t month_starts[2][13] = {
+    {0, 31, 59, 90, 120, 151, 181, 212, 243, 273, 304, 334, 365},
+    {0, 31, 60, 91, 121, 152, 182, 213, 244, 274, 305, 335, 366},
+};
+
+/* Of the years up to 2273 only 2100 and 2200 break the rule of four. */
+static bool leap_year(uint32_t year)
+{
+    return year % 4 == 0 && year != 2100 && year != 2200;
+}
+
+/* The day of 1 January, of a year up to 2274. */
+static uint32_t year_start(uint32_t year)
+{
+    uint32_t years = year - FIRST_YEAR;
+    return 365 * years + (years + 3) / 4 - (year > 2100) - (year > 2200);
+}
+
+struct grain_day plain_day_from_date(uint32_t year, uint32_t month, uint32_t day)
+{
+    if (year < FIRST_YEAR || year > LAST_YEAR || month < 1 || month > 12)
+        return (struct grain_day){.number = 27};
+    const uint32_t *starts = month_starts[leap_year(year)];
+    if (day < 1 || day > starts[month] - starts[month - 1])
+        return (struct grain_day){.number = 27};
+    uint32_t found = year_start(year) + starts[month - 1] + day - 1;
+    if (found > LAST_DAY)
+        return (struct grain_day){.number = 27};
+    return (struct grain_day){.accepted = 1, .day = found};
+}
+
+/* A year of 366 days and a month of 31 are the longest: counted by these, year and month come out right or one too early. */
+struct grain_date plain_date_from_day(uint32_t day)
+{
+    if (day > LAST_DAY)
+        return (struct grain_date){.number = 27};
+    uint32_t year = FIRST_YEAR + day / 366;
+    if (year_start(year + 1) <= day)
+        year++;
+    const uint32_t *starts = month_starts[leap_year(year)];
+    uint32_t left = day - year_start(year), month = 1 + left / 31;
+    if (starts[month] <= left)
+        month++;
+    return (struct grain_date){.accepted = 1, .year = year, .month = month, .day = left - starts[month - 1] + 1};
+}
+
+/* Weeks are counted from Monday, 27 December 1999, five days before day 0. */
+static uint32_t since_monday(uint32_t day)
+{
+    return day + 5;
+}
+
+struct grain_weekday plain_weekday_of_day(uint32_t day)
+{
+    if (day > LAST_DAY)
+        return (struct grain_weekday){.number = 27};
+    return (struct grain_weekday){.accepted = 1, .weekday = since_monday(day) % WEEK + 1};
+}
+
+/* How many days from Monday to Friday there are up to a day, the day included. */
+static uint32_t weekdays_up_to(uint32_t day)
+{
+    uint32_t weeks = since_monday(day) / WEEK, in_week = since_monday(day) % WEEK + 1;
+    return WORKING_WEEK * weeks + (in_week < WORKING_WEEK ? in_week : WORKING_WEEK);
+}
+
+static bool bad_holidays(const int32_t *holidays, size_t holidays_len)
+{
+    int32_t last = -1;
+    for (size_t i = 0; i < holidays_len; i++) {
+        if (holidays[i] <= last || holidays[i] > LAST_DAY)
+            return true;
+        last = holidays[i];
+    }
+    return false;
+}
+
+/* Without holidays it is the weekday that is count later; every holiday up to there moves it on by one. */
+struct grain_day plain_working_day(uint32_t day, uint32_t count, const int32_t *holidays, size_t holidays_len)
+{
+    if (day > LAST_DAY)
+        return (struct grain_day){.number = 27};
+    if (bad_holidays(holidays, holidays_len))
+        return (struct grain_day){.number = 28};
+    if (count == 0)
+        return (struct grain_day){.accepted = 1, .day = day};
+    if (count > LAST_DAY)
+        return (struct grain_day){.number = 27};
+    uint32_t weekday = weekdays_up_to(day) + count;
+    size_t i = 0;
+    while (i < holidays_len && holidays[i] <= (int32_t)day)
+        i++;
+    for (; i < holidays_len && weekdays_up_to((uint32_t)holidays[i]) <= weekday; i++)
+        if (since_monday((uint32_t)holidays[i]) % WEEK < WORKING_WEEK)
+            weekday++;
+    /* the first weekday is the Monday five days before day 0 */
+    uint32_t found = (weekday - 1) / WORKING_WEEK * WEEK + (weekday - 1) % WORKING_WEEK - since_monday(0);
+    if (found > LAST_DAY)
+        return (struct grain_day){.number = 27};
+    return (struct grain_day){.accepted = 1, .day = found};
+}
+
+struct grain_day plain_results_due(uint32_t day, const int32_t *holidays, size_t holidays_len)
+{
+    return plain_working_day(day, 2, holidays, holidays_len);
+}

@@ -17,5 +17,10 @@ struct grain_charted plain_chart_set(struct grain_chart *restrict chart, uint32_
                                      size_t numbers_len, uint8_t *restrict line, size_t line_len);
 struct grain_written plain_chart_text(const uint8_t *restrict text, size_t text_len, uint8_t *restrict out,
                                       size_t out_len);
+struct grain_day plain_day_from_date(uint32_t year, uint32_t month, uint32_t day);
+struct grain_date plain_date_from_day(uint32_t day);
+struct grain_weekday plain_weekday_of_day(uint32_t day);
+struct grain_day plain_working_day(uint32_t day, uint32_t count, const int32_t *holidays, size_t holidays_len);
+struct grain_day plain_results_due(uint32_t day, const int32_t *holidays, size_t holidays_len);
 
 #endif

@@ -1,5 +1,5 @@
-/* A wheat station's first days, wet gluten too, a chart set and a chart text. Prints what the calls answer. A line that
- * isn't open says why: it was adjusted (day 1), it is new (day 4), it was shut (day 5). */
+/* A wheat station's first days, wet gluten too, a chart set and a chart text, and the calendar. Prints what the calls
+ * answer. A line that isn't open says why: it was adjusted (day 1), it is new (day 4), it was shut (day 5). */
 #include "grain.h"
 
 #include <inttypes.h>
@@ -63,6 +63,41 @@ static void gluten(struct grain_station *station, uint32_t day, float protein, f
            c.figure / 10, c.figure % 10, c.basis / 100, c.basis / 10 % 10, c.day, c.intercept);
 }
 
+/* A sheet entered by its date: the calendar gives the day. */
+static void dated_sheet(struct grain_station *station, uint32_t year, uint32_t month, uint32_t day)
+{
+    printf("%" PRIu32 "-%02" PRIu32 "-%02" PRIu32 ": ", year, month, day);
+    struct grain_day found = grain_day_from_date(year, month, day);
+    if (!found.accepted) {
+        refused("date", found.number);
+        return;
+    }
+    sheet(station, found.day, 1010, 1011);
+}
+
+/* Monitor samples retrieved on the Wednesday before a holiday: when are their results due? */
+static void monitored(void)
+{
+    static const char *const weekdays[7] = {"Monday", "Tuesday",  "Wednesday", "Thursday",
+                                            "Friday", "Saturday", "Sunday"};
+    struct grain_day retrieved = grain_day_from_date(2026, 11, 25), holiday = grain_day_from_date(2026, 11, 26);
+    const int32_t holidays[1] = {(int32_t)holiday.day};
+    struct grain_day due = grain_results_due(retrieved.day, holidays, 1);
+    struct grain_date date = grain_date_from_day(due.day);
+    struct grain_weekday weekday = grain_weekday_of_day(due.day);
+    if (!retrieved.accepted || !holiday.accepted || !due.accepted || !date.accepted || !weekday.accepted)
+        return;
+    printf("retrieved on day %" PRIu32 ": results due on %s, %" PRIu32 "-%02" PRIu32 "-%02" PRIu32 ", day %" PRIu32 "\n",
+           retrieved.day, weekdays[weekday.weekday - GRAIN_MONDAY], date.year, date.month, date.day, due.day);
+}
+
+static void calendar(struct grain_station *station)
+{
+    dated_sheet(station, 2026, 2, 29); /* no such date */
+    dated_sheet(station, 2026, 11, 16);
+    monitored();
+}
+
 int main(void)
 {
     struct grain_station station;
@@ -98,5 +133,6 @@ int main(void)
         printf("text line %" PRIu32 ": ", written.line);
         refused("chart text", written.number);
     }
+    calendar(&station);
     return 0;
 }

@@ -19,11 +19,14 @@ struct side {
                                        uint32_t, uint32_t, int32_t);
     struct grain_answer (*chart_open)(struct grain_chart *, uint64_t);
     struct grain_charted (*chart_set)(struct grain_chart *, uint32_t, const int32_t *, size_t, uint8_t *, size_t);
+    struct grain_date (*date_from_day)(uint32_t);
 };
 
 static const struct side sides[2] = {
-    {"core", grain_open, grain_sheet, grain_repair, grain_market, grain_chart_open, grain_chart_set},
-    {"plain", plain_open, plain_sheet, plain_repair, plain_market, plain_chart_open, plain_chart_set},
+    {"core", grain_open, grain_sheet, grain_repair, grain_market, grain_chart_open, grain_chart_set,
+     grain_date_from_day},
+    {"plain", plain_open, plain_sheet, plain_repair, plain_market, plain_chart_open, plain_chart_set,
+     plain_date_from_day},
 };
 
 /* A station with four sets on each of its lines, of days 1 to 4. */
@@ -114,12 +117,21 @@ static long chart_set(const struct side *side, long count)
     return accepted;
 }
 
+/* Dates of days all over the calendar. */
+static long date(const struct side *side, long count)
+{
+    long accepted = 0;
+    for (long i = 0; i < count; i++)
+        accepted += side->date_from_day((uint32_t)(i * 7919 % (GRAIN_LAST_DAY + 1))).accepted;
+    return accepted;
+}
+
 static const struct {
     const char *name;
     long (*calls)(const struct side *, long);
 } modes[] = {
     {"market-wheat", market_wheat}, {"market-corn", market_corn}, {"sheet", sheet},
-    {"repair", repair},             {"chart-set", chart_set},
+    {"repair", repair},             {"chart-set", chart_set},     {"date", date},
 };
 
 int main(int argc, char **argv)
@@ -130,6 +142,6 @@ int main(int argc, char **argv)
                 long count = strtol(argv[3], NULL, 10);
                 return modes[j].calls(&sides[i], count) == count ? 0 : 1;
             }
-    fprintf(stderr, "instructions core|plain market-wheat|market-corn|sheet|repair|chart-set COUNT\n");
+    fprintf(stderr, "instructions core|plain market-wheat|market-corn|sheet|repair|chart-set|date COUNT\n");
     return 2;
 }

@@ -1,5 +1,5 @@
-/* All eight calls from four threads at once, each on stations and charts of its own, beside the same calls by one thread:
- * every answer, state and output must be the same. */
+/* All thirteen calls from four threads at once, each on stations and charts of its own and all over the same holidays,
+ * beside the same calls by one thread: every answer, state and output must be the same. */
 #define _POSIX_C_SOURCE 200809L
 
 #include "grain.h"
@@ -10,7 +10,10 @@
 #include <stdlib.h>
 #include <string.h>
 
-enum { THREADS = 4, CALLS = 100000, STATIONS = 8, CHARTS = 8 };
+enum { THREADS = 4, CALLS = 100000, STATIONS = 8, CHARTS = 8, KINDS = 13, HOLIDAYS = 11 };
+
+/* Those of 2026, as days. */
+static const int32_t holidays[HOLIDAYS] = {9497, 9515, 9543, 9641, 9666, 9681, 9746, 9781, 9811, 9826, 9855};
 
 /* What one thread works on and what it was answered. */
 struct job {
@@ -19,8 +22,8 @@ struct job {
     struct grain_chart charts[CHARTS];
     uint8_t line[GRAIN_LINE_BYTES];
     uint8_t out[2000];
-    uint64_t answers;     /* a hash of all answers and outputs */
-    uint32_t accepted[8]; /* of each call */
+    uint64_t answers;         /* a hash of all answers and outputs */
+    uint32_t accepted[KINDS]; /* of each call */
 };
 
 static uint32_t draw(struct job *job, uint32_t below)
@@ -37,13 +40,41 @@ static void take(struct job *job, const void *memory, size_t size)
         job->answers = (job->answers ^ bytes[i]) * UINT64_C(1099511628211);
 }
 
+static void calendar_call(struct job *job)
+{
+    uint32_t day = 9480 + draw(job, 400), call = draw(job, 5);
+    if (call == 0) {
+        struct grain_day d = grain_day_from_date(1990 + draw(job, 300), draw(job, 14), draw(job, 33));
+        take(job, &d, sizeof d);
+        job->accepted[8] += d.accepted;
+    } else if (call == 1) {
+        struct grain_date d = grain_date_from_day(draw(job, 101000));
+        take(job, &d, sizeof d);
+        job->accepted[9] += d.accepted;
+    } else if (call == 2) {
+        struct grain_weekday w = grain_weekday_of_day(draw(job, 101000));
+        take(job, &w, sizeof w);
+        job->accepted[10] += w.accepted;
+    } else if (call == 3) {
+        struct grain_day d = grain_working_day(day, draw(job, 30), holidays, draw(job, HOLIDAYS + 1));
+        take(job, &d, sizeof d);
+        job->accepted[11] += d.accepted;
+    } else {
+        struct grain_day d = grain_results_due(day, holidays, HOLIDAYS);
+        take(job, &d, sizeof d);
+        job->accepted[12] += d.accepted;
+    }
+}
+
 static void one_call(struct job *job)
 {
     struct grain_station *station = &job->stations[draw(job, STATIONS)];
     struct grain_chart *chart = &job->charts[draw(job, CHARTS)];
-    uint32_t day = (uint32_t)station->day + draw(job, 2), call = draw(job, 40);
+    uint32_t day = (uint32_t)station->day + draw(job, 2), call = draw(job, 45);
     uint64_t line = station->row == GRAIN_ROW_CORN ? draw(job, 3) : 0;
-    if (call == 0) {
+    if (call >= 40) {
+        calendar_call(job);
+    } else if (call == 0) {
         struct grain_answer a = grain_open(station, draw(job, 3));
         take(job, &a, sizeof a);
         job->accepted[0] += a.accepted;
@@ -148,7 +179,7 @@ int main(void)
             fprintf(stderr, "threads: thread %d and one thread alone differ\n", i);
             return 1;
         }
-        for (int call = 0; call < 8; call++)
+        for (int call = 0; call < KINDS; call++)
             if (alone.accepted[call] == 0) {
                 fprintf(stderr, "threads: call %d was never accepted\n", call);
                 return 1;

@@ -1,35 +1,39 @@
 /* The measuring core of a grain laboratory service: analyser readings, reference sheets and intercepts, market tests,
- * control charts. For C11, C++11 and later. Link libabi.a; nothing else is needed.
+ * control charts, a calendar. For C11, C++11 and later. Link libabi.a; nothing else is needed.
  *
  * State. A station and a chart are plain structs of int32_t in the caller's memory, opened by a call and then changed in
  * place. They hold no pointers: copy, store and compare them as you like, and store GRAIN_LAYOUT beside them. Whatever
  * comes back from storage may be handed in: a state with a field out of its bounds, or sheets out of the order of their
  * days, is refused by number 0. Lines that the row doesn't use and sets beyond `held` may hold anything; they are not
- * looked at.
+ * looked at. The calendar has no state.
  *
  * Answers. Every call answers a struct by value. `accepted` is 1, or 0 for a refused call; `number` is then the reason
  * (GRAIN_REFUSED_...). The first that applies is answered, in the order of the numbers, 23 and 24 standing between 8 and 9,
- * 25 and 26 in the place of 12, between 11 and 13. All other fields are 0 where a call is refused, except a text's `line`.
- * A refused call writes nothing at all: no field of the state, no byte of a buffer. There is one exception: a refused
- * opening leaves a fresh state of row 0, every field 0.
+ * 25 and 26 in the place of 12, between 11 and 13. Where working days are counted, 27 is tried twice: of the day handed in
+ * before 28, of the day found after it. All other fields are 0 where a call is refused, except a text's `line`. A refused
+ * call writes nothing at all: no field of the state, no byte of a buffer. There is one exception: a refused opening leaves
+ * a fresh state of row 0, every field 0.
  *
  * Units. "Hundredths" are whole hundredths of a percent (1354 is 13.54 percent), "tenths" whole tenths of a percent. Days
- * are whole numbers from 0 to 99999 that never go back, weeks from 1 to 9999 that rise, both counted as the laboratory
- * likes.
+ * are whole numbers from 0 to 99999, weeks from 1 to 9999. On a station days never go back, on a chart weeks rise; both are
+ * counted as the laboratory likes. The calendar below is one way to count days: its day 0 is 1 January 2000. Station calls
+ * take a day's number and do not look at the calendar.
  *
  * Pointers. A station or chart must not be NULL. Any other array may be NULL if its length is 0: a sheet without numbers is
  * refused by 4, a set without numbers by 20, an empty text by 16, and a buffer of length 0 by 22, each where no earlier
- * number applies. Arrays handed to one call must not overlap each other or the state (GRAIN_RESTRICT).
+ * number applies; a list of holidays of length 0 says that there are none. Arrays handed to one call must not overlap each
+ * other or the state (GRAIN_RESTRICT).
  *
  * Threads. There is no global state, and nothing is allocated: calls on different stations and charts may run on any
- * threads at once. Calls on the same station or chart must not. */
+ * threads at once. Calls on the same station or chart must not. Calendar calls only read: any number of them may run at
+ * once, also over one list of holidays, as long as nobody writes to it. */
 #ifndef GRAIN_H
 #define GRAIN_H
 
 #include <stddef.h>
 #include <stdint.h>
 
-#define GRAIN_VERSION "0.4.0"
+#define GRAIN_VERSION "0.5.0"
 
 /* Changes whenever struct grain_station or struct grain_chart does, or what their fields mean: a stored state of another
  * layout is not to be used before it is carried over.
@@ -186,6 +190,21 @@ struct grain_chart {
 /* The longest text. */
 #define GRAIN_TEXT_BYTES 65536
 
+/* ---- The calendar ---- */
+
+/* Day 0 is 1 January 2000, a Saturday; the last is 15 October 2273, a Wednesday. Years, months and days of a month are
+ * those of the Gregorian calendar: 2000 is a leap year, 2100 and 2200 are not. */
+#define GRAIN_LAST_DAY 99999
+
+/* Weekdays, numbered as in ISO 8601. Monday to Friday are working days unless they are holidays. */
+#define GRAIN_MONDAY 1
+#define GRAIN_TUESDAY 2
+#define GRAIN_WEDNESDAY 3
+#define GRAIN_THURSDAY 4
+#define GRAIN_FRIDAY 5
+#define GRAIN_SATURDAY 6
+#define GRAIN_SUNDAY 7
+
 /* ---- Answers ---- */
 
 struct grain_answer {
@@ -235,6 +254,23 @@ struct grain_written {
     uint32_t length; /* bytes written, 0 if refused */
 };
 
+struct grain_day {
+    uint32_t accepted, number;
+    uint32_t day; /* 0 to GRAIN_LAST_DAY */
+};
+
+struct grain_date {
+    uint32_t accepted, number;
+    uint32_t year;  /* 2000 to 2273 */
+    uint32_t month; /* 1 to 12 */
+    uint32_t day;   /* of the month, 1 to 31 */
+};
+
+struct grain_weekday {
+    uint32_t accepted, number;
+    uint32_t weekday; /* GRAIN_MONDAY to GRAIN_SUNDAY */
+};
+
 /* ---- Refusals ---- */
 
 /* Each number's sentence stands in grain_message below. */
@@ -265,6 +301,8 @@ struct grain_written {
 #define GRAIN_REFUSED_GLUTEN_BASIS 24
 #define GRAIN_REFUSED_ADJUSTED_LINE 25
 #define GRAIN_REFUSED_SHUT_LINE 26
+#define GRAIN_REFUSED_NO_SUCH_DAY 27
+#define GRAIN_REFUSED_HOLIDAYS 28
 
 /* What is wrong, in a technician's words. */
 static inline const char *grain_message(uint32_t number)
@@ -329,6 +367,11 @@ static inline const char *grain_message(uint32_t number)
     case GRAIN_REFUSED_SHUT_LINE:
         return "the line was shut, as its sheet kept no sample or called for an intercept beyond 10.00 percent, and its "
                "check is due: enter a reference sheet that meets the check limit first";
+    case GRAIN_REFUSED_NO_SUCH_DAY:
+        return "there is no such date or day, or the day found is past the last: the calendar runs from 1 January 2000, "
+               "day 0, to 15 October 2273, day 99999";
+    case GRAIN_REFUSED_HOLIDAYS:
+        return "the holidays must be day numbers from 0 to 99999, each later than the one before it";
     default:
         return "there is no refusal with this number";
     }
@@ -378,6 +421,32 @@ GRAIN_NODISCARD struct grain_charted grain_chart_set(struct grain_chart *GRAIN_R
  * written. The text's lines are judged in turn: the first bad one is answered. Refused by 15 to 19, 21, 22. */
 GRAIN_NODISCARD struct grain_written grain_chart_text(const uint8_t *GRAIN_RESTRICT text, size_t text_len,
                                                       uint8_t *GRAIN_RESTRICT out, size_t out_len);
+
+/* The calendar's calls take bounded time whatever they are given: dates and weekdays are found by arithmetic, working days
+ * in one pass over the holidays that ends at the first bad one, so that at most 100001 of them are looked at. */
+
+/* The day that has this date. Refused by 27: there is no such date from 1 January 2000 to 15 October 2273. */
+GRAIN_NODISCARD struct grain_day grain_day_from_date(uint32_t year, uint32_t month, uint32_t day);
+
+/* The date of a day. Refused by 27: the day is above 99999. */
+GRAIN_NODISCARD struct grain_date grain_date_from_day(uint32_t day);
+
+/* The weekday of a day. Refused by 27: the day is above 99999. */
+GRAIN_NODISCARD struct grain_weekday grain_weekday_of_day(uint32_t day);
+
+/* The day that is count working days after a day: of the days that come after it, the count-th that is a working day. The
+ * day itself is never counted, working or not; a count of 0 gives it back whatever it is.
+ *
+ * holidays: day numbers, each later than the one before it. A holiday on a Saturday or Sunday changes nothing. The whole
+ * list is judged, also the holidays before the day and those after the day found, and also where count is 0.
+ *
+ * Refused by 27 (the day is above 99999), then 28, then 27 (the day found would be above 99999). */
+GRAIN_NODISCARD struct grain_day grain_working_day(uint32_t day, uint32_t count, const int32_t *holidays,
+                                                   size_t holidays_len);
+
+/* The day by which monitoring results are due at the service point: 2 working days after the day of retrieval, which is not
+ * counted. The same as grain_working_day with count 2, and refused alike. */
+GRAIN_NODISCARD struct grain_day grain_results_due(uint32_t day, const int32_t *holidays, size_t holidays_len);
 
 /* ---- Layout, as the library has it ---- */
 
@@ -448,6 +517,20 @@ GRAIN_AT(grain_written, accepted, 0);
 GRAIN_AT(grain_written, number, 4);
 GRAIN_AT(grain_written, line, 8);
 GRAIN_AT(grain_written, length, 12);
+GRAIN_SIZE(grain_day, 12);
+GRAIN_AT(grain_day, accepted, 0);
+GRAIN_AT(grain_day, number, 4);
+GRAIN_AT(grain_day, day, 8);
+GRAIN_SIZE(grain_date, 20);
+GRAIN_AT(grain_date, accepted, 0);
+GRAIN_AT(grain_date, number, 4);
+GRAIN_AT(grain_date, year, 8);
+GRAIN_AT(grain_date, month, 12);
+GRAIN_AT(grain_date, day, 16);
+GRAIN_SIZE(grain_weekday, 12);
+GRAIN_AT(grain_weekday, accepted, 0);
+GRAIN_AT(grain_weekday, number, 4);
+GRAIN_AT(grain_weekday, weekday, 8);
 
 #undef GRAIN_SIZE
 #undef GRAIN_AT

@@ -137,6 +137,35 @@ pub struct Written {
     pub length: u32,
 }
 
+/// A day of the calendar.
+#[repr(C)]
+#[derive(Clone, Copy, Debug, Default, PartialEq, Eq, Hash)]
+pub struct Day {
+    pub accepted: u32,
+    pub number: u32,
+    pub day: u32,
+}
+
+/// A date: year, month, day of the month.
+#[repr(C)]
+#[derive(Clone, Copy, Debug, Default, PartialEq, Eq, Hash)]
+pub struct Date {
+    pub accepted: u32,
+    pub number: u32,
+    pub year: u32,
+    pub month: u32,
+    pub day: u32,
+}
+
+/// A weekday, 1 (Monday) to 7 (Sunday).
+#[repr(C)]
+#[derive(Clone, Copy, Debug, Default, PartialEq, Eq, Hash)]
+pub struct Weekday {
+    pub accepted: u32,
+    pub number: u32,
+    pub weekday: u32,
+}
+
 /// Checks a struct's size and the offset of each of its fields.
 macro_rules! layout {
     ($type:ident: $size:literal, $($field:ident: $offset:literal),+) => {
@@ -164,6 +193,9 @@ layout!(
     al: 24, tl: 28, run: 32, ral: 36, rtl: 40, length: 44
 );
 layout!(Written: 16, accepted: 0, number: 4, line: 8, length: 12);
+layout!(Day: 12, accepted: 0, number: 4, day: 8);
+layout!(Date: 20, accepted: 0, number: 4, year: 8, month: 12, day: 16);
+layout!(Weekday: 12, accepted: 0, number: 4, weekday: 8);
 
 impl PastSet {
     fn places(self) -> [i32; 3] {
@@ -313,4 +345,26 @@ unsafe extern "C" {
         out: *mut u8,
         out_len: usize,
     ) -> Written;
+
+    /// Any numbers may be asked.
+    pub safe fn grain_day_from_date(year: u32, month: u32, day: u32) -> Day;
+
+    /// Any number may be asked.
+    pub safe fn grain_date_from_day(day: u32) -> Date;
+
+    /// Any number may be asked.
+    pub safe fn grain_weekday_of_day(day: u32) -> Weekday;
+
+    /// # Safety
+    /// `holidays` has `holidays_len` numbers (or is null and has none).
+    pub fn grain_working_day(
+        day: u32,
+        count: u32,
+        holidays: *const i32,
+        holidays_len: usize,
+    ) -> Day;
+
+    /// # Safety
+    /// `holidays` has `holidays_len` numbers (or is null and has none).
+    pub fn grain_results_due(day: u32, holidays: *const i32, holidays_len: usize) -> Day;
 }

@@ -4,7 +4,8 @@ use std::error::Error;
 use std::fmt;
 
 /// Why a call was refused. The first that applies is answered, in the order of the numbers, 23 and 24
-/// standing between 8 and 9, 25 and 26 in the place of 12, and the state stays as it was.
+/// standing between 8 and 9, 25 and 26 in the place of 12, and the state stays as it was. Where working
+/// days are counted, 27 is tried twice: of the day handed in before 28, of the day found after it.
 ///
 /// ```
 /// use grain::{Refusal, Station};
@@ -75,10 +76,14 @@ pub enum Refusal {
     /// The line was shut, and its check is due: its newest sheet kept nothing, or the intercept would
     /// have left -1000 to 1000 hundredths.
     ShutLine = 26,
+    /// The calendar has no such date or day, or the day found is past its last, 99999.
+    NoSuchDay = 27,
+    /// The holidays don't rise strictly, or one lies outside 0 to 99999.
+    Holidays = 28,
 }
 
 /// Every refusal with its message, in the order of the numbers.
-const MESSAGES: [(Refusal, &str); 27] = [
+const MESSAGES: [(Refusal, &str); 29] = [
     (
         Refusal::Unsound,
         "the stored station or chart is damaged; restore it from a copy or open a new one",
@@ -195,10 +200,19 @@ const MESSAGES: [(Refusal, &str); 27] = [
         "the line was shut, as its sheet kept no sample or called for an intercept beyond 10.00 \
          percent, and its check is due: enter a reference sheet that meets the check limit first",
     ),
+    (
+        Refusal::NoSuchDay,
+        "there is no such date or day, or the day found is past the last: the calendar runs from \
+         1 January 2000, day 0, to 15 October 2273, day 99999",
+    ),
+    (
+        Refusal::Holidays,
+        "the holidays must be day numbers from 0 to 99999, each later than the one before it",
+    ),
 ];
 
 impl Refusal {
-    /// The refusals in the order of their numbers, 0 to 26.
+    /// The refusals in the order of their numbers, 0 to 28.
     pub fn all() -> impl Iterator<Item = Refusal> {
         MESSAGES.iter().map(|(refusal, _)| *refusal)
     }
@@ -209,7 +223,7 @@ impl Refusal {
         MESSAGES.get(place).map(|(refusal, _)| *refusal)
     }
 
-    /// The number, 0 to 26.
+    /// The number, 0 to 28.
     pub fn number(self) -> u8 {
         self as u8
     }

@@ -5,14 +5,15 @@ use std::path::Path;
 use std::process::Command;
 
 use grain::{
-    Asked, Basis, Chart, LAYOUT, LinePhase, Outcome, Phase, Refusal, RestoreError, Scan, Station,
-    WheatClass, chart_text, chart_text_into,
+    Asked, Basis, Chart, Date, LAST_DAY, LAYOUT, LinePhase, Outcome, Phase, Refusal, RestoreError,
+    Scan, Station, Weekday, WheatClass, chart_text, chart_text_into, date_from_day, day_from_date,
+    results_due, weekday, working_day,
 };
 
 #[test]
 fn every_refusal_has_its_number_and_message() {
     let all: Vec<Refusal> = Refusal::all().collect();
-    assert_eq!(all.len(), 27);
+    assert_eq!(all.len(), 29);
     for (number, refusal) in (0..).zip(&all) {
         assert_eq!(refusal.number(), number);
         assert_eq!(Refusal::of(number.into()), Some(*refusal));
@@ -23,21 +24,23 @@ fn every_refusal_has_its_number_and_message() {
         );
     }
     let messages: BTreeSet<&str> = all.iter().map(|refusal| refusal.message()).collect();
-    assert_eq!(messages.len(), 27);
+    assert_eq!(messages.len(), 29);
     assert!(messages.iter().all(|message| message.len() > 20));
-    for none in [27, 100, 256, u32::MAX] {
+    for none in [29, 100, 256, u32::MAX] {
         assert_eq!(Refusal::of(none), None);
     }
 }
 
-/// A C program that prints the header's version, layout and messages.
+/// A C program that prints the header's version, layout, last day, weekdays and messages.
 const SAYS: &str = r#"
 #include "grain.h"
 #include <stdio.h>
 int main(void)
 {
-    printf("%s\n%d\n", GRAIN_VERSION, GRAIN_LAYOUT);
-    for (uint32_t number = 0; number < 28; number++)
+    printf("%s\n%d\n%d\n", GRAIN_VERSION, GRAIN_LAYOUT, GRAIN_LAST_DAY);
+    printf("%d %d %d ", GRAIN_MONDAY, GRAIN_TUESDAY, GRAIN_WEDNESDAY);
+    printf("%d %d %d %d\n", GRAIN_THURSDAY, GRAIN_FRIDAY, GRAIN_SATURDAY, GRAIN_SUNDAY);
+    for (uint32_t number = 0; number < 30; number++)
         printf("%s\n", grain_message(number));
     return 0;
 }
@@ -62,12 +65,26 @@ fn the_header_says_the_same() {
     let mut lines = said.lines();
     assert_eq!(lines.next(), Some(env!("CARGO_PKG_VERSION")));
     assert_eq!(lines.next(), Some(LAYOUT.to_string().as_str()));
+    assert_eq!(lines.next(), Some(LAST_DAY.to_string().as_str()));
+    let weekdays = WEEK.map(|weekday| weekday.number().to_string());
+    assert_eq!(lines.next(), Some(weekdays.join(" ").as_str()));
     for refusal in Refusal::all() {
         assert_eq!(lines.next(), Some(refusal.message()), "{refusal:?}");
     }
     assert_eq!(lines.next(), Some("there is no refusal with this number"));
     assert_eq!(lines.next(), None);
 }
+
+/// The weekdays in their order.
+const WEEK: [Weekday; 7] = [
+    Weekday::Monday,
+    Weekday::Tuesday,
+    Weekday::Wednesday,
+    Weekday::Thursday,
+    Weekday::Friday,
+    Weekday::Saturday,
+    Weekday::Sunday,
+];
 
 /// The limits in the header's text are those of the rules.
 #[test]
@@ -472,4 +489,54 @@ fn texts_need_no_buffer() {
     );
     let refused = chart_text(&[b'\n'; 65_537]).unwrap_err();
     assert_eq!((refused.refusal, refused.line), (Refusal::TextTooLong, 0));
+}
+
+/// Day 2 is a Monday. Dates are ordered as their days are.
+#[test]
+fn days_have_weekdays_and_dates() {
+    for (day, expected) in (2..).zip(WEEK) {
+        assert_eq!(weekday(day), Ok(expected));
+    }
+    let mut before = date_from_day(0).unwrap();
+    for day in (1..=LAST_DAY).step_by(13) {
+        let date = date_from_day(day).unwrap();
+        assert!(before < date, "{day}");
+        assert_eq!(day_from_date(date), Ok(day));
+        before = date;
+    }
+}
+
+#[test]
+fn what_the_calendar_refuses() {
+    let none = Date {
+        year: u32::MAX,
+        month: 1,
+        day: 1,
+    };
+    assert_eq!(day_from_date(none), Err(Refusal::NoSuchDay));
+    for day in [LAST_DAY + 1, u32::MAX] {
+        assert_eq!(date_from_day(day), Err(Refusal::NoSuchDay));
+        assert_eq!(weekday(day), Err(Refusal::NoSuchDay));
+        assert_eq!(results_due(day, &[1, 1]), Err(Refusal::NoSuchDay));
+    }
+    for holidays in [[1, 1], [2, 1], [-1, 1], [1, 100_000]] {
+        assert_eq!(working_day(1, 0, &holidays), Err(Refusal::Holidays));
+        assert_eq!(results_due(LAST_DAY, &holidays), Err(Refusal::Holidays));
+    }
+    assert_eq!(results_due(LAST_DAY, &[]), Err(Refusal::NoSuchDay));
+}
+
+/// A day of the calendar is a day of a station's calls.
+#[test]
+fn a_sheet_has_a_date() {
+    let entered = Date {
+        year: 2026,
+        month: 11,
+        day: 17,
+    };
+    let mut station = Station::open(Station::WHEAT).unwrap();
+    let sheet = [1300, 1300, 1300, -1, -1, -1].repeat(6);
+    let day = day_from_date(entered).unwrap();
+    station.sheet(day, 0, &sheet).unwrap();
+    assert_eq!(date_from_day(station.day() as u32), Ok(entered));
 }

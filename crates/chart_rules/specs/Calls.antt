@@ -2,10 +2,11 @@
 use Prim.Native.Nat.{ℕ}
 use mathlib.Core.Bool.{not}
 use mathlib.Core.List.{List, [], _∷_, _++_}
-use mathlib.Core.Option.{Option, none, some}
+use mathlib.Core.Option.{none, some}
 use lib.IntN.{ℤ, pos}
 use lib.ListN.{length}
 use Rattle.whole.specs.Lists.{Check}
+use Rattle.whole.specs.Says.{Says}
 use Rattle.decimal.specs.Put.{overwritten}
 use Rattle.chart_rules.specs.Rows.{rowExists}
 use Rattle.chart_rules.specs.Sets.{setOf}
@@ -82,11 +83,6 @@ chartSetOf c week numbers buffer =
     record { result = r; buffer = overwritten (bytesOf (r .answer)) buffer }
 
 -- ---- the number and the values of each answer
-
--- the number of a refusal, if it is one, and the values that are answered
-pub record Says : Type 0 where
-  pub number : Option ℕ
-  pub values : List ℤ
 
 -- an opening has no values
 abbrev pub openSays : OpenAnswer → Says

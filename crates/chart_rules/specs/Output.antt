@@ -6,10 +6,11 @@ use lib.IntN.{pos}
 use lib.ListN.{length}
 use lib.Dec.{ltb}
 use Rattle.whole.specs.Lists.{Check}
+use Rattle.whole.specs.Says.{Says}
 use Rattle.decimal.specs.Bytes.{bytes}
 use Rattle.decimal.specs.Put.{overwritten}
 use Rattle.chart_rules.specs.Charts.{freshChart}
-use Rattle.chart_rules.specs.Calls.{resultOf, bytesOf, Says}
+use Rattle.chart_rules.specs.Calls.{resultOf, bytesOf}
 use Rattle.chart_rules.specs.Judging.{InLine, check, textNumber, firstRuling, textChecks, valueLines}
 use Rattle.chart_rules.specs.Gathering.{Gathered, none, setsOf}
 use Rattle.chart_rules.specs.declared.Chart.{Chart}

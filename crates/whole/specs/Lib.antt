@@ -2,4 +2,5 @@ pub mod Parts
 pub mod Places
 pub mod Lists
 pub mod Rounding
+pub mod Says
 pub mod Three

@@ -5,6 +5,7 @@
 //! Quantities are whole hundredths of a percent unless tenths are named.
 
 pub mod book;
+pub mod calendar;
 pub mod chart;
 pub mod line;
 pub mod market;
@@ -15,6 +16,7 @@ pub mod station;
 pub mod text;
 
 pub use book::Book;
+pub use calendar::{Calendar, Date};
 pub use chart::{Chart, ChartSet, ChartValues};
 pub use line::{Test, Verdict};
 pub use market::{Asked, Basis, Certificate, Scan, WheatClass};

@@ -1,6 +1,6 @@
 //! The numbers that the rules compare with (sections "Product rows", "Control charts",
-//! "Refused calls"). They are passed to every rule, so that a comparison can show that it notices
-//! each of them being off by one.
+//! "The calendar", "Refused calls"). They are passed to every rule, so that a comparison can show
+//! that it notices each of them being off by one.
 
 use crate::Refusal;
 
@@ -36,10 +36,39 @@ pub struct ChartRow {
     pub range_tolerance: i64,
 }
 
+/// The calendar.
+#[derive(Clone, Debug)]
+pub struct CalendarRules {
+    /// 1 January 2000 is day 0 ..
+    pub first_year: i64,
+    /// .. a Saturday.
+    pub first_weekday: i64,
+    /// Weekdays are numbered from Monday, 1, to Sunday, 7.
+    pub weekdays: i64,
+    /// January to December, February in a year that isn't a leap year.
+    pub month_lengths: [i64; 12],
+    pub leap_february: i64,
+    /// Every fourth year is a leap year ..
+    pub leap_years: i64,
+    /// .. but of the full centuries ..
+    pub century: i64,
+    /// .. only every fourth.
+    pub leap_centuries: i64,
+    /// Up to day 99999; number 27.
+    pub last_day: i64,
+    /// Number 28: A holiday lies outside 0..99999.
+    pub last_holiday: i64,
+    /// Monday to Friday are working days unless listed.
+    pub working_weekdays: i64,
+    /// Monitoring results are due within 2 working days.
+    pub due_days: i64,
+}
+
 #[derive(Clone, Debug)]
 pub struct Rules {
     pub products: Vec<Product>,
     pub charts: Vec<ChartRow>,
+    pub calendar: CalendarRules,
     /// Its day is 0..99999; number 2.
     pub last_day: i64,
     /// Past sets more than 14 days old are ignored.
@@ -106,6 +135,7 @@ impl Rules {
                 chart_row([25, 20, 15], [80, 60]), // soybean protein
                 chart_row([20, 15, 10], [60, 45]), // soybean oil
             ],
+            calendar: calendar_rules(),
             last_day: 99_999,
             past_days: 14,
             newest_days: 7,
@@ -179,5 +209,22 @@ fn chart_row([absolute, tolerance, run]: [i64; 3], range: [i64; 2]) -> ChartRow 
         run,
         range_absolute,
         range_tolerance,
+    }
+}
+
+fn calendar_rules() -> CalendarRules {
+    CalendarRules {
+        first_year: 2000,
+        first_weekday: 6,
+        weekdays: 7,
+        month_lengths: [31, 28, 31, 30, 31, 30, 31, 31, 30, 31, 30, 31],
+        leap_february: 29,
+        leap_years: 4,
+        century: 100,
+        leap_centuries: 400,
+        last_day: 99_999,
+        last_holiday: 99_999,
+        working_weekdays: 5,
+        due_days: 2,
     }
 }

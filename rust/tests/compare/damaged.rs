@@ -1,7 +1,8 @@
-//! Damaged models: each number of the rules off by one, and models that tell the lines that aren't open
-//! wrongly.
+//! Damaged models: each number of the rules off by one, models that tell the lines that aren't open
+//! wrongly, and wrong calendars.
 
-use grain_model::{Line, LinePhase, Rules, Station, Verdict};
+use grain_model::rules::CalendarRules;
+use grain_model::{Calendar, Line, LinePhase, Rules, Station, Verdict};
 
 use crate::encode::{self, StationPlaces};
 use crate::markets;
@@ -59,6 +60,29 @@ pub fn numbers(rules: &mut Rules) -> Vec<(String, &mut i64)> {
         ("line bytes", &mut rules.line_bytes),
     ];
     numbers.extend(single.map(|(name, number)| (name.to_string(), number)));
+    numbers.extend(calendar_numbers(&mut rules.calendar));
+    numbers
+}
+
+fn calendar_numbers(rules: &mut CalendarRules) -> Vec<(String, &mut i64)> {
+    let mut numbers = Vec::new();
+    for (month, length) in (1..).zip(&mut rules.month_lengths) {
+        numbers.push((format!("length of month {month}"), length));
+    }
+    let single: [(&str, &mut i64); 11] = [
+        ("length of a leap year's February", &mut rules.leap_february),
+        ("leap years", &mut rules.leap_years),
+        ("century", &mut rules.century),
+        ("leap centuries", &mut rules.leap_centuries),
+        ("first year", &mut rules.first_year),
+        ("first weekday", &mut rules.first_weekday),
+        ("weekdays", &mut rules.weekdays),
+        ("calendar's last day", &mut rules.last_day),
+        ("last holiday", &mut rules.last_holiday),
+        ("working weekdays", &mut rules.working_weekdays),
+        ("due days", &mut rules.due_days),
+    ];
+    numbers.extend(single.map(|(name, number)| (name.to_string(), number)));
     numbers
 }
 
@@ -99,9 +123,27 @@ pub enum Wrong {
     RepairShuts,
     /// A repair makes a line new whose check is due.
     RepairForgets,
+    /// Every fourth year is a leap year, 2100 and 2200 too.
+    EveryFourthYear,
+    /// Saturday is a working day.
+    SaturdayWorks,
+    /// A starting day that is a working day is counted.
+    StartCounted,
+    /// 28 tried before 27 of the day handed in.
+    HolidaysFirst,
+    /// 27 of the day found tried before 28.
+    HolidaysLast,
+    /// A list may have a holiday twice.
+    MayRepeat,
+    /// The holidays are not looked at where the count is 0.
+    UnseenAtZero,
+    /// The last holiday is not looked at where the day is found before it.
+    UnseenBeyond,
+    /// A holiday on a weekend moves the day found as well.
+    WeekendHolidays,
 }
 
-pub const WRONG: [Wrong; 11] = [
+pub const WRONG: [Wrong; 20] = [
     Wrong::OneNumber,
     Wrong::Exchanged,
     Wrong::BeforeCorrected,
@@ -113,9 +155,29 @@ pub const WRONG: [Wrong; 11] = [
     Wrong::RepairAdjusts,
     Wrong::RepairShuts,
     Wrong::RepairForgets,
+    Wrong::EveryFourthYear,
+    Wrong::SaturdayWorks,
+    Wrong::StartCounted,
+    Wrong::HolidaysFirst,
+    Wrong::HolidaysLast,
+    Wrong::MayRepeat,
+    Wrong::UnseenAtZero,
+    Wrong::UnseenBeyond,
+    Wrong::WeekendHolidays,
 ];
 
 impl Wrong {
+    /// The rules of the wrong model.
+    pub fn rules(self) -> Rules {
+        let mut rules = Rules::in_force();
+        match self {
+            Wrong::EveryFourthYear => rules.calendar.century = i64::MAX,
+            Wrong::SaturdayWorks => rules.calendar.working_weekdays = 6,
+            _ => {}
+        }
+        rules
+    }
+
     /// The station after an accepted sheet with this verdict.
     pub fn sheet(self, before: &StationPlaces, after: &mut Station, line: u64, verdict: Verdict) {
         let place = line as usize;
@@ -173,4 +235,57 @@ impl Wrong {
             _ => right,
         }
     }
+
+    /// The answer in place of the right one to a call for a working day.
+    pub fn working_day(
+        self,
+        calendar: &Calendar,
+        day: u32,
+        count: u32,
+        holidays: &[i32],
+    ) -> Result<i64, u8> {
+        let right = calendar.working_day(day, count, holidays);
+        let counted = |count| calendar.working_day(day, count, holidays);
+        match (self, right) {
+            (Wrong::StartCounted, Ok(_) | Err(27))
+                if calendar.weekday(day).is_ok() && calendar.is_working(day as usize, holidays) =>
+            {
+                counted(count.saturating_sub(1))
+            }
+            (Wrong::HolidaysFirst, Err(27)) if calendar.bad_holidays(holidays) => Err(28),
+            (Wrong::HolidaysLast, Err(28)) if count > 99_999 - day => Err(27),
+            (Wrong::MayRepeat, Err(28)) => {
+                let mut once = holidays.to_vec();
+                once.dedup();
+                calendar.working_day(day, count, &once)
+            }
+            (Wrong::UnseenAtZero, Err(28)) if count == 0 => Ok(day.into()),
+            (Wrong::UnseenBeyond, Err(28)) => {
+                let seen = &holidays[..holidays.len() - 1];
+                let found = calendar.working_day(day, count, seen);
+                let beyond = |&last: &i32| found.is_ok_and(|found| i64::from(last) > found);
+                if seen.last().is_some_and(beyond) {
+                    found
+                } else {
+                    right
+                }
+            }
+            (Wrong::WeekendHolidays, Ok(found)) => {
+                counted(count + weekend_holidays(calendar, day, found, holidays))
+            }
+            _ => right,
+        }
+    }
+}
+
+/// How many of the holidays lie on weekends after `day`, up to `found`.
+fn weekend_holidays(calendar: &Calendar, day: u32, found: i64, holidays: &[i32]) -> u32 {
+    let between =
+        |holiday: &&i32| i64::from(day) < i64::from(**holiday) && i64::from(**holiday) <= found;
+    let weekend = |holiday: &&i32| {
+        calendar
+            .weekday(**holiday as u32)
+            .is_ok_and(|weekday| weekday > 5)
+    };
+    holidays.iter().filter(between).filter(weekend).count() as u32
 }

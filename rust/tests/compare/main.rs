@@ -5,6 +5,7 @@
 //! `GRAIN_DAMAGE=n` runs the comparison with the n-th number of the model off by one, to see it
 //! fail. `GRAIN_SEED=n` takes another seed.
 
+mod calendars;
 mod charts;
 mod damaged;
 mod encode;
@@ -38,6 +39,10 @@ struct Extent {
     handed_in: usize,
     random_floats: usize,
     float_step: usize,
+    calendar_step: usize,
+    working_days: usize,
+    /// Holidays on all days, and on all but one.
+    all_holidays: bool,
 }
 
 const FULL: Extent = Extent {
@@ -49,6 +54,9 @@ const FULL: Extent = Extent {
     handed_in: 8_000,
     random_floats: 100,
     float_step: 1,
+    calendar_step: 1,
+    working_days: 100_000,
+    all_holidays: true,
 };
 
 /// Enough to notice any one number off by one.
@@ -61,6 +69,9 @@ const SMALL: Extent = Extent {
     handed_in: 600,
     random_floats: 1,
     float_step: 100,
+    calendar_step: 97,
+    working_days: 1_000,
+    all_holidays: false,
 };
 
 /// Says something past the test harness's capture.
@@ -71,6 +82,7 @@ fn say(line: &str) {
 /// All comparisons.
 fn compare(trial: &mut Trial, extent: &Extent) -> Result<(), Difference> {
     trial.orders = extent.orders;
+    compare_calendar(trial, extent)?;
     lists::openings(trial)?;
     readings::sample(trial, extent.random_floats, extent.float_step)?;
     for _ in 0..extent.station_lists {
@@ -99,6 +111,19 @@ fn compare(trial: &mut Trial, extent: &Extent) -> Result<(), Difference> {
     }
     texts::particular(trial)?;
     texts::longest(trial)
+}
+
+fn compare_calendar(trial: &mut Trial, extent: &Extent) -> Result<(), Difference> {
+    calendars::days(trial, extent.calendar_step)?;
+    calendars::dates(trial, extent.calendar_step)?;
+    calendars::particular(trial)?;
+    for _ in 0..extent.working_days {
+        calendars::single(trial)?;
+    }
+    match extent.all_holidays {
+        true => calendars::longest(trial),
+        false => Ok(()),
+    }
 }
 
 const SEED: u64 = 0x6772_6169_6E01;
@@ -148,7 +173,7 @@ fn a_damaged_model_is_caught() {
         }
     }
     for wrong in damaged::WRONG {
-        tried(format!("{wrong:?}"), Rules::in_force(), Some(wrong));
+        tried(format!("{wrong:?}"), wrong.rules(), Some(wrong));
     }
     say(&format!("damaged models caught: {caught}"));
     assert!(missed.is_empty(), "not noticed: {missed:?}");

@@ -11,10 +11,11 @@ use crate::lent::{Difference, Lent, same};
 use crate::met::Met;
 use crate::rng::Rng;
 
-/// What all comparisons share: the model's numbers, what is wrong with the model, if anything, the
-/// random generator, the counts, and whether sheets are also given in another order.
+/// What all comparisons share: the model's numbers and its calendar, what is wrong with the model, if
+/// anything, the random generator, the counts, and whether sheets are also given in another order.
 pub struct Trial {
     pub rules: Rules,
+    pub calendar: model::Calendar,
     pub wrong: Option<Wrong>,
     pub rng: Rng,
     pub met: Met,
@@ -210,6 +211,7 @@ fn told_certificate(certificate: grain::Certificate) -> Certificate {
 impl Trial {
     pub fn new(rules: Rules, seed: u64) -> Trial {
         Trial {
+            calendar: model::Calendar::new(&rules),
             rules,
             wrong: None,
             rng: Rng::new(seed),

@@ -1,0 +1,3 @@
+pub mod YearLaws
+pub mod MonthLaws
+pub mod DateLaws

@@ -1,0 +1,10 @@
+pub mod Months
+pub mod Years
+pub mod Succession
+pub mod DateTests
+pub mod Exact
+pub mod WeekdayLaws
+pub mod WorkingLaws
+pub mod Holidays
+pub mod Working
+pub mod Cases

@@ -1,0 +1,2 @@
+pub mod WeekLaws
+pub mod PassLaws
