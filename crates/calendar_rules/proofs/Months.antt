@@ -67,9 +67,14 @@ unfolding monthStart
 year-end true = refl
 year-end false = refl
 
+-- what never falls from one number to the next is no less so many numbers on
+pub no-less : (f : ℕ → ℕ) (m k : ℕ) → ((j : ℕ) → j < k → f (m + j) ≤ f (suc (m + j))) → f m ≤ f (m + k)
+no-less f m zero h = let e : m + 0 ≡ m = omega arith in omega (arith, ap f e)
+no-less f m (suc k) h =
+    let e : m + suc k ≡ suc (m + k) = omega arith in
+    omega (arith, no-less f m k (λ j l. h j (omega arith)), h k (omega arith), ap f e)
+
 -- a later month begins no earlier than this one ends
 pub month-order : (leap : Bool) (m k : ℕ) → 1 ≤ m → m + k ≤ 12 → monthStart leap (suc m) ≤ monthStart leap (suc m + k)
-month-order leap m zero h l = let e : suc m + 0 ≡ suc m = omega arith in omega (arith, ap (monthStart leap) e)
-month-order leap m (suc k) h l =
-    let e : suc m + suc k ≡ suc (suc m + k) = omega arith in
-    omega (arith, month-order leap m k h (omega arith), month-is leap (suc m + k) (omega arith) (omega arith), ap (monthStart leap) e)
+month-order leap m k h l =
+    no-less (monthStart leap) (suc m) k (λ (j : ℕ) (i : j < k). omega (arith, month-is leap (suc m + j) (omega arith) (omega arith)))

@@ -1,12 +1,13 @@
 -- The years' starts: each year begins where the one before ends, and a later year begins no earlier than that.
 use mathlib.Core.Path.{_≡_, refl, ap, _∙_}
 use mathlib.Core.Bool.{Bool, true, false, not, _&&_, _||_, cond}
-use Prim.Native.Nat.{ℕ, zero, suc, _+_, _-_, _*_, _/_, _%_, _≤_}
+use Prim.Native.Nat.{ℕ, suc, _+_, _-_, _*_, _/_, _%_, _≤_, _<_}
 use native.Mathlib.Omega.{arith}
 use lib.Dec.{eqb}
 use borrow.Author.Tests.{eqb-true, eqb-false}
 use Rattle.calendar_rules.specs.Dates.{leapYear}
 use Rattle.calendar_rules.specs.Counting.{yearStart}
+use Rattle.calendar_rules.proofs.Months.{no-less}
 
 -- the start of the year 2000 + k
 abbrev startOf : ℕ → ℕ
@@ -16,7 +17,7 @@ startOf k = 365 * k + (k + 3) / 4 + (k + 399) / 400 - (k + 99) / 100
 adds : (k x y z a b c : ℕ) → y ≤ x → b ≤ a + c → 365 * suc k + (x + a) + (z + c) - (y + b) ≡ 365 * k + x + z - y + (365 + (a + c - b))
 adds k x y z a b c h l = omega arith
 
--- what one year more adds, by the three tests of the Gregorian rule
+-- what one year more adds, by the three tests of the Gregorian rule: each by itself, as omega divides by numerals only
 module _ (k : ℕ) where
   fourth : (t : Bool) → eqb ((2000 + k) % 4) 0 ≡ t → (suc k + 3) / 4 ≡ (k + 3) / 4 + cond t 1 0
   fourth true e = omega (arith, eqb-true ((2000 + k) % 4) 0 e)
@@ -61,7 +62,4 @@ year-next y h =
 
 -- a later year begins no earlier than this one ends
 pub year-order : (y k : ℕ) → 2000 ≤ y → yearStart (suc y) ≤ yearStart (suc y + k)
-year-order y zero h = let e : suc y + 0 ≡ suc y = omega arith in omega (arith, ap yearStart e)
-year-order y (suc k) h =
-    let e : suc y + suc k ≡ suc (suc y + k) = omega arith in
-    omega (arith, year-order y k h, year-next (suc y + k) (omega arith), ap yearStart e)
+year-order y k h = no-less yearStart (suc y) k (λ (j : ℕ) (i : j < k). omega (arith, year-next (suc y + j) (omega arith)))
