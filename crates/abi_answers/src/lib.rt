@@ -1,10 +1,12 @@
 // What an exported call that has no values hands back.
+
+#![tactic(auto)]
 ghost use Rattle.std.specs.Prelude.{◌≡◌};
 ghost use Rattle.abi_answers.specs.Given.{accepted as accepted_answer, refused as refused_answer};
 
 // accepted is 1 or 0; number is the refusal's, 0 where accepted.
 #[repr(C)]
-#[derive(Drop)]
+#[derive(Clone, Copy)]
 pub struct GrainAnswer {
     pub accepted: u32,
     pub number: u32,

@@ -1,4 +1,6 @@
 // What the exported calendar functions hand back: small structs of 32-bit numbers.
+
+#![tactic(auto)]
 ghost use Rattle.std.specs.Prelude.{◌≡◌};
 ghost use Rattle.abi_calendar.specs.CalendarAnswers.{day_given, date_given, weekday_given};
 
@@ -6,7 +8,7 @@ use calendar_rules::{DateAnswer, DayAnswer, WeekdayAnswer};
 
 // accepted is 1 or 0, number the refusal's; then the day.
 #[repr(C)]
-#[derive(Drop)]
+#[derive(Clone, Copy)]
 pub struct GrainDay {
     pub accepted: u32,
     pub number: u32,
@@ -15,7 +17,7 @@ pub struct GrainDay {
 
 // accepted is 1 or 0, number the refusal's; then the date.
 #[repr(C)]
-#[derive(Drop)]
+#[derive(Clone, Copy)]
 pub struct GrainDate {
     pub accepted: u32,
     pub number: u32,
@@ -26,7 +28,7 @@ pub struct GrainDate {
 
 // accepted is 1 or 0, number the refusal's; then the weekday, Monday 1 to Sunday 7.
 #[repr(C)]
-#[derive(Drop)]
+#[derive(Clone, Copy)]
 pub struct GrainWeekday {
     pub accepted: u32,
     pub number: u32,

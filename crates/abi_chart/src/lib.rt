@@ -1,4 +1,6 @@
 // What the exported chart functions hand back: small structs of 32-bit numbers.
+
+#![tactic(auto)]
 ghost use Rattle.std.specs.Prelude.{◌≡◌, ◌≤◌};
 ghost use Rattle.chart_rules.specs.declared.ChartAnswer.TheVariants.{Charted};
 ghost use Rattle.abi_chart.specs.ChartAnswers.{open_given, flag_of, set_refused, set_given, text_given, line_length, text_length};
@@ -8,7 +10,7 @@ use chart_rules::{ChartAnswer, OpenAnswer, TextAnswer, Values};
 
 // accepted is 1 or 0, number the refusal's; then what the set's output line says, the flags as 1 or 0, and its length in bytes.
 #[repr(C)]
-#[derive(Drop)]
+#[derive(Clone, Copy)]
 pub struct GrainCharted {
     pub accepted: u32,
     pub number: u32,
@@ -26,7 +28,7 @@ pub struct GrainCharted {
 
 // accepted is 1 or 0, number the refusal's and line its text line; length is that of the output.
 #[repr(C)]
-#[derive(Drop)]
+#[derive(Clone, Copy)]
 pub struct GrainWritten {
     pub accepted: u32,
     pub number: u32,

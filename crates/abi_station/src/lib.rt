@@ -1,4 +1,6 @@
 // What the exported station functions are asked and hand back: kinds by their numbers, and small structs of 32-bit numbers.
+
+#![tactic(auto)]
 ghost use Rattle.std.specs.Prelude.{◌≡◌};
 ghost use Rattle.station_rules.specs.declared.SheetAnswer.TheVariants.{Accepted};
 ghost use Rattle.station_rules.specs.declared.MarketAnswer.TheVariants.{Certified};
@@ -13,7 +15,7 @@ use station_rules::{
 
 // accepted is 1 or 0, number the refusal's; then the hundredths.
 #[repr(C)]
-#[derive(Drop)]
+#[derive(Clone, Copy)]
 pub struct GrainValue {
     pub accepted: u32,
     pub number: u32,
@@ -22,7 +24,7 @@ pub struct GrainValue {
 
 // accepted is 1 or 0, number the refusal's; then S, N, the phase after the sheet and the intercept's change.
 #[repr(C)]
-#[derive(Drop)]
+#[derive(Clone, Copy)]
 pub struct GrainOutcome {
     pub accepted: u32,
     pub number: u32,
@@ -34,7 +36,7 @@ pub struct GrainOutcome {
 
 // accepted is 1 or 0, number the refusal's; then the newest set's day, the intercept, B, and the figures of h and at B in tenths.
 #[repr(C)]
-#[derive(Drop)]
+#[derive(Clone, Copy)]
 pub struct GrainCertificate {
     pub accepted: u32,
     pub number: u32,

@@ -1,5 +1,7 @@
 // The calendar's calls: dates and days, weekdays, working days, and when monitoring results are due. Each ends in bounded time: dates by arithmetic, working
 // days in one pass over the holidays, which stops at the first that is bad; 100000 of them at most are good.
+
+#![tactic(auto)]
 ghost use Rattle.std.specs.Prelude.{◌≡◌, ◌≤◌};
 ghost use Rattle.calendar_rules.specs.Weekdays.{weekday_on};
 ghost use Rattle.calendar_rules.specs.Calls.{day_of, date_of, weekday_of, working_day, results_due};

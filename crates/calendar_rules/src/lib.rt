@@ -1,5 +1,7 @@
 // The values of the calendar: what a call takes and what it answers, and the rules' numbers.
 
+#![tactic(auto)]
+
 // ---- the rules' numbers
 
 // The year of day 0.
@@ -28,14 +30,14 @@ pub const DUE_DAYS: u32 = 2;
 // ---- dates and weekdays
 
 // Year, month 1 to 12, day 1 to the month's length.
-#[derive(Drop)]
+#[derive(Clone, Copy)]
 pub struct Date {
     pub year: u32,
     pub month: u32,
     pub day: u32,
 }
 
-#[derive(Drop)]
+#[derive(Clone, Copy)]
 pub enum Weekday {
     Monday,
     Tuesday,
@@ -49,25 +51,25 @@ pub enum Weekday {
 // ---- answers
 
 // Numbers 27 and 28.
-#[derive(Drop)]
+#[derive(Clone, Copy)]
 pub enum Refusal {
     NoSuchDay,
     BadHolidays,
 }
 
-#[derive(Drop)]
+#[derive(Clone, Copy)]
 pub enum DayAnswer {
     Found(u32),
     Refused(Refusal),
 }
 
-#[derive(Drop)]
+#[derive(Clone, Copy)]
 pub enum DateAnswer {
     Found(Date),
     Refused(Refusal),
 }
 
-#[derive(Drop)]
+#[derive(Clone, Copy)]
 pub enum WeekdayAnswer {
     Found(Weekday),
     Refused(Refusal),

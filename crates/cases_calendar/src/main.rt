@@ -1,4 +1,6 @@
 // The calendar's cases, run: dates at its edges, weekdays, working days, and when results are due. Each call's answer is printed.
+
+#![tactic(auto)]
 use calendar_rules::{Date, DateAnswer, DayAnswer, Refusal, WeekdayAnswer};
 use libc::STDOUT_FILENO;
 

@@ -1,4 +1,6 @@
 // The chart cases that carry no star, run: four sets of sum 51 are a run, four of 50 are none. Each set's output line is written.
+
+#![tactic(auto)]
 use chart_rules::{CHART_PLACES, ChartAnswer, LINE_ROOM};
 use libc::STDOUT_FILENO;
 

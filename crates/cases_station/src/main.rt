@@ -1,4 +1,6 @@
 // The cases that carry no star, each number of refusal once, and whole lists of calls: each call is run, and its answer printed.
+
+#![tactic(auto)]
 mod calls;
 mod gluten;
 mod lists;

@@ -6,7 +6,7 @@ use station_rules::{Outcome, STATION_PLACES, SheetAnswer};
 use whole::flags;
 
 // A call's answer, and the places that it left.
-#[derive(Drop)]
+#[derive(Clone, Copy)]
 struct Came {
     answer: SheetAnswer,
     left: Places,

@@ -1,4 +1,6 @@
 // The chart program: a chart text from standard input; the wheat chart's output, or the refusal's line, to standard output.
+
+#![tactic(auto)]
 use chart_rules::{MOST_TEXT, PROGRAM_ROOM};
 use libc::{STDERR_FILENO, STDIN_FILENO, STDOUT_FILENO};
 

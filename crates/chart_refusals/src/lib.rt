@@ -1,4 +1,6 @@
 // Which refusal applies to a call that charts one set.
+
+#![tactic(auto)]
 ghost use Rattle.std.specs.Prelude.{◌≡◌};
 ghost use Rattle.chart_rules.specs.Refusals.{number_of, refusal_of};
 

@@ -1,4 +1,7 @@
 // The values of control charts and chart texts: what a call takes and what it answers, and the rules' numbers.
+
+#![tactic(auto)]
+
 use whole::held;
 
 // ---- the rules' numbers
@@ -62,7 +65,7 @@ pub const NO_ROW: u32 = 4294967295;
 // ---- a chart
 
 // A row's limits: of the average absolute, tolerance and run; of the range absolute and tolerance.
-#[derive(Drop)]
+#[derive(Clone, Copy)]
 pub struct Limits {
     pub al: u32,
     pub tl: u32,
@@ -72,7 +75,7 @@ pub struct Limits {
 }
 
 // A set: the number of its pairs, the sum of its differences, the largest difference minus the smallest.
-#[derive(Drop)]
+#[derive(Clone, Copy)]
 pub struct ChartSet {
     pub count: u32,
     pub sum: i32,
@@ -80,7 +83,7 @@ pub struct ChartSet {
 }
 
 // A chart: its row, its last week, and its held sets, newest first, in the first `held` places.
-#[derive(Drop)]
+#[derive(Clone, Copy)]
 pub struct Chart {
     pub row: u32,
     pub week: u32,
@@ -89,7 +92,7 @@ pub struct Chart {
 }
 
 // What a set's output line says.
-#[derive(Drop)]
+#[derive(Clone, Copy)]
 pub struct Values {
     pub week: u32,
     pub count: u32,
@@ -105,7 +108,7 @@ pub struct Values {
 // ---- its calls
 
 // Numbers 0, 1 and 19 to 22.
-#[derive(Drop)]
+#[derive(Clone, Copy)]
 pub enum Refusal {
     UnsoundChart,
     UnknownRow,
@@ -115,20 +118,20 @@ pub enum Refusal {
     ShortBuffer,
 }
 
-#[derive(Drop)]
+#[derive(Clone, Copy)]
 pub enum Judgement {
     Fine,
     Refused(Refusal),
 }
 
-#[derive(Drop)]
+#[derive(Clone, Copy)]
 pub enum OpenAnswer {
     Opened,
     Refused(Refusal),
 }
 
 // The values of the output line and its length in bytes; or a refusal.
-#[derive(Drop)]
+#[derive(Clone, Copy)]
 pub enum ChartAnswer {
     Charted(Values, usize),
     Refused(Refusal),
@@ -137,14 +140,14 @@ pub enum ChartAnswer {
 // ---- a chart text
 
 // A number that was read, and the position behind it.
-#[derive(Drop)]
+#[derive(Clone, Copy)]
 pub enum Number {
     Value(u32, usize),
     Bad,
 }
 
 // A value line of a text.
-#[derive(Drop)]
+#[derive(Clone, Copy)]
 pub struct ValueLine {
     pub week: u32,
     pub sample: u32,
@@ -153,14 +156,14 @@ pub struct ValueLine {
 }
 
 // A line that was read, and the position of the next.
-#[derive(Drop)]
+#[derive(Clone, Copy)]
 pub enum LineRead {
     Values(ValueLine, usize),
     Bad,
 }
 
 // Numbers 15 to 19, 21 and 22.
-#[derive(Drop)]
+#[derive(Clone, Copy)]
 pub enum TextRefusal {
     TooLong,
     BadNames,
@@ -172,21 +175,21 @@ pub enum TextRefusal {
 }
 
 // A refusal with its text line, or none.
-#[derive(Drop)]
+#[derive(Clone, Copy)]
 pub enum Ruling {
     Fine,
     Refused(TextRefusal, u32),
 }
 
 // The text is good and has so many sets; or the refusal and its text line.
-#[derive(Drop)]
+#[derive(Clone, Copy)]
 pub enum TextVerdict {
     Good(usize),
     Refused(TextRefusal, u32),
 }
 
 // The length of what was written; or the refusal and its text line.
-#[derive(Drop)]
+#[derive(Clone, Copy)]
 pub enum TextAnswer {
     Written(usize),
     Refused(TextRefusal, u32),

@@ -1,4 +1,6 @@
 // The run of the average: this set and three of the four before it.
+
+#![tactic(auto)]
 ghost use Rattle.std.specs.Prelude.{◌≡◌, [], ◌∷◌, map, ◌≤◌, take};
 ghost use Rattle.whole.specs.Parts.{Within};
 ghost use Rattle.whole.specs.Lists.{total, above as above_of, below as below_of};

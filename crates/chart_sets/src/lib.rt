@@ -1,4 +1,6 @@
 // A set of a control chart: its pairs of results turned into count, sum and range.
+
+#![tactic(auto)]
 ghost use Rattle.std.specs.Prelude.{◌≡◌, false, ◌-ℤ◌, length};
 ghost use Rattle.whole.specs.Parts.{Within};
 ghost use Rattle.chart_rules.specs.Refusals.{bad_size, bad_result};
@@ -10,7 +12,7 @@ use chart_rules::{ChartSet, LARGEST_RANGE, LARGEST_RESULT, MOST_PAIRS};
 use whole::{Int, flags};
 
 // The sum, the largest and the smallest of some differences.
-#[derive(Drop)]
+#[derive(Clone, Copy)]
 struct Tally {
     sum: Int,
     high: Int,

@@ -1,4 +1,7 @@
 // Writes bytes, numbers and flags into a buffer, each writer from a position on: it gives the position behind what it wrote.
+
+#![tactic(auto)]
+
 ghost use Rattle.std.specs.Prelude.{◌≡◌, [], ◌∷◌, ◌+◌, ◌<◌, ◌≤◌, nat_abs, length};
 ghost use Rattle.decimal.specs.Put.{Put};
 ghost use Rattle.decimal.specs.Show.{show, show_signed, bit};

@@ -1,5 +1,7 @@
 // Market tests (docs/SPECIFICATION.md, "Market test and moisture basis", "Wet gluten"): their numbers in order, and the call on a station in
 // its caller's places.
+
+#![tactic(auto)]
 ghost use Rattle.std.specs.Prelude.{◌≡◌, ◌≤◌};
 ghost use Rattle.station_rules.specs.Held.{line_values};
 ghost use Rattle.station_rules.specs.Places.{station_in};

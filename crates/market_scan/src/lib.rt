@@ -1,11 +1,13 @@
 // What the analyser answered: the float asked for.
+
+#![tactic(auto)]
 ghost use Rattle.std.specs.Prelude.{◌≡◌};
 ghost use Rattle.station_rules.specs.Readings.{corn_float};
 ghost use Rattle.market_scan.specs.Scans.{line_picked, gluten_picked, picked_of};
 
 use station_rules::{Asked, CornSet, OIL, PROTEIN, Scan, WHEAT};
 
-#[derive(Drop)]
+#[derive(Clone, Copy)]
 pub enum Picked {
     Value(f32),
     Wrong,

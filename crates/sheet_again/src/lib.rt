@@ -1,4 +1,6 @@
 // The pass of an again round (docs/SPECIFICATION.md, "The reference sheet", rules 3 and 4): number 7, S and N, one part of the lent numbers after another.
+
+#![tactic(auto)]
 ghost use Rattle.std.specs.Prelude.{◌≤◌};
 ghost use Rattle.whole.specs.Parts.{Within};
 ghost use Rattle.station_rules.specs.Sheets.{samples_of};
@@ -11,7 +13,7 @@ use station_rules::Limits;
 use whole::{Int, flags};
 
 // S and N so far, and whether an again pair was missing or needless.
-#[derive(Drop)]
+#[derive(Clone, Copy)]
 pub struct Tally {
     pub wrong: bool,
     pub sum: Int,

@@ -1,4 +1,6 @@
 // A sample's six numbers, taken from its part of the sheet, and number 5 (docs/SPECIFICATION.md, "The reference sheet").
+
+#![tactic(auto)]
 ghost use Rattle.std.specs.Prelude.{◌≡◌, ◌*◌, ◌<◌, length, get_or};
 ghost use Rattle.station_rules.specs.Sheets.{samples_of, is_result, absent, wrong_number};
 ghost use Rattle.sheet_numbers.specs.Samples.{sample_of, sample_from, allowed, in_ranges, has_again};
@@ -10,7 +12,7 @@ use whole::{Int, flags};
 // The largest number of a sheet.
 const LARGEST_NUMBER: i32 = LARGEST as i32;
 
-#[derive(Drop)]
+#[derive(Clone, Copy)]
 pub struct SixNumbers {
     pub baseline: Int,
     pub first: Int,

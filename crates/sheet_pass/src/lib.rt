@@ -1,5 +1,7 @@
 // The pass over a sheet's samples (docs/SPECIFICATION.md, "The reference sheet"), one part of the lent numbers after another: numbers 5 and 6, the range of rule 3, and S where there is no
 // again round. Nothing of a sample is kept but what it adds to these.
+
+#![tactic(auto)]
 ghost use Rattle.std.specs.Prelude.{◌≡◌, ◌≤◌};
 ghost use Rattle.whole.specs.Parts.{Within};
 ghost use Rattle.station_rules.specs.Sheets.{samples_of};
@@ -17,7 +19,7 @@ const LOWEST: i32 = -25000;
 const HIGHEST: i32 = 25000;
 
 // Of some samples: whether one deviates, and the largest and the smallest deviation.
-#[derive(Drop)]
+#[derive(Clone, Copy)]
 pub struct Span {
     pub deviating: bool,
     pub high: Int,
@@ -26,7 +28,7 @@ pub struct Span {
 
 // What the samples so far come to: whether 5 (a wrong number) and 6 (a wrong third) apply, whether an again pair is there, the span and the sum of the deviations. Where 5 applies, nothing
 // else counts.
-#[derive(Drop)]
+#[derive(Clone, Copy)]
 pub struct Found {
     pub number: bool,
     pub third: bool,

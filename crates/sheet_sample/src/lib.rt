@@ -1,4 +1,6 @@
 // One sample of a sheet (docs/SPECIFICATION.md, "The reference sheet", rules 1 to 3): whether a third is due, its deviation, and what an again round makes of it.
+
+#![tactic(auto)]
 ghost use Rattle.std.specs.Prelude.{◌≡◌, ◌≤◌};
 ghost use Rattle.whole.specs.Parts.{Within};
 ghost use Rattle.station_rules.specs.Sheets.{third_due, wrong_third, used_pair, deviation, deviates, first_deviation};
@@ -72,7 +74,7 @@ pub fn is_deviating(limits: Limits, d: Int) -> bool
 }
 
 // What an again round makes of a sample: number 7, and its deviation.
-#[derive(Drop)]
+#[derive(Clone, Copy)]
 pub struct Again {
     pub wrong: bool,
     pub deviation: Int,

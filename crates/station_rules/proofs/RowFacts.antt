@@ -1,7 +1,5 @@
 -- What the proofs need of the table of product rows, for an arbitrary row: one test computed over the table, and one law.
-use mathlib.Core.Path.{◌≡◌, subst}
 use mathlib.Core.Bool.{Bool, ◌&&◌}
-use mathlib.Core.List.{List}
 use Prim.Native.Nat.{ℕ, ◌≤◌, ◌<◌}
 use lib.Dec.{T, leb, ltb, leb→le, ltb→lt}
 use lib.ListN.{length, get_or}

@@ -8,8 +8,8 @@ use native.Mathlib.Omega.{arith}
 use native.Mathlib.Nat.{mul-mod_right}
 use lib.Dec.{T, leb, ltb, eqb, leb→le, le→leb, eqb→eq}
 use lib.ListN.{length}
-use lib.IntN.{ℤ, pos, negsuc, nat_abs, ◌+ℤ◌, ◌-ℤ◌, ◌*ℤ◌}
-use Rattle.whole.specs.Lists.{any, all, total, differ, Check}
+use lib.IntN.{ℤ, pos, negsuc, nat_abs, ◌-ℤ◌, ◌*ℤ◌}
+use Rattle.whole.specs.Lists.{any, all, total, differ}
 use Rattle.station_rules.specs.Lists.{keep}
 use Rattle.station_rules.specs.Refusals.{first_number}
 use Rattle.station_rules.specs.Sheets.{Sample, samples_of, is_result, absent, wrong_number, wrong_third, wrong_again, Pair, pair, spread, pair_sum, closer, closest_pair, third_due, used_pair, deviation, first_deviation, final_deviation, again_round, again_due, kept, kept_samples, set_of, sheet_checks}

@@ -1,5 +1,7 @@
 // Numbers 0 and 2, which look at the station alone: whether what stands in the places is a sound station, and whether a call's day serves (docs/SPECIFICATION.md,
 // "Refused calls").
+
+#![tactic(auto)]
 ghost use Rattle.std.specs.Prelude.{◌≡◌, ◌&&◌, ◌≤◌, leb, length, take};
 ghost use Rattle.whole.specs.Lists.{all};
 ghost use Rattle.station_rules.specs.Judging.{day_check};

@@ -1,4 +1,6 @@
 // A chart text's lines grouped into sets, each set charted when it is complete.
+
+#![tactic(auto)]
 ghost use Rattle.std.specs.Prelude.{◌≡◌, ◌+◌, ◌*◌, ◌<◌, ◌≤◌, pos, length};
 ghost use Rattle.decimal.specs.Put.{Put};
 ghost use Rattle.chart_rules.specs.Places.{chart_at};
@@ -10,7 +12,7 @@ ghost use Rattle.chart_rules.specs.Output.{chart_all};
 use chart_rules::{CHART_PLACES, ChartAnswer, MOST_NUMBERS, ValueLine};
 
 // A set under way: its week, the number of its pairs, the pairs one after the other.
-#[derive(Drop)]
+#[derive(Clone, Copy)]
 pub struct TextSet {
     pub week: u32,
     pub count: usize,
@@ -18,7 +20,7 @@ pub struct TextSet {
 }
 
 // The chart so far, in its places, the set under way, and where the next output line goes.
-#[derive(Drop)]
+#[derive(Clone, Copy)]
 pub struct Progress {
     pub chart: [i32; CHART_PLACES],
     pub set: TextSet,

@@ -1,4 +1,6 @@
 // A chart text's lines judged in turn: numbers 15 to 19 and 21, with the text line.
+
+#![tactic(auto)]
 ghost use Rattle.std.specs.Prelude.{◌≡◌, cond, ◌+◌, ◌<◌, ◌≤◌, eqb, length};
 ghost use Rattle.chart_rules.specs.Judging.{first_ruling, value_lines, lines_checks, verdict, starts, judged};
 

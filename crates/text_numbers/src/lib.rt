@@ -1,4 +1,6 @@
 // Decimal numbers of a chart text, read: a lone 0, or up to five digits without a leading zero.
+
+#![tactic(auto)]
 ghost use Rattle.std.specs.Prelude.{◌≡◌, ◌<◌, drop};
 ghost use Rattle.chart_rules.specs.TextLines.{is_digit, digits, number_at};
 

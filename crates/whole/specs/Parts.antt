@@ -1,6 +1,6 @@
 -- An integer z as up z - down z: how far it lies above 0, and how far below. One of the two is 0.
 -- omega reads only natural numbers: the leaf contracts state what it is to know of an integer in these two.
-use Rattle.std.specs.Prelude.{◌≡◌, ℕ, ◌+◌, ◌-◌, ◌*◌, ◌≤◌, ℤ, pos, negsuc, neg_ℤ, ◌+ℤ◌, ◌-ℤ◌, ◌*ℤ◌}
+use Rattle.std.specs.Prelude.{◌≡◌, ℕ, ◌+◌, ◌*◌, ◌≤◌, ℤ, pos, negsuc, neg_ℤ, ◌+ℤ◌, ◌-ℤ◌, ◌*ℤ◌}
 
 abbrev pub up : ℤ → ℕ
 up (pos n) = n

@@ -1,6 +1,8 @@
 // Whole numbers: an i32 in a struct, with leaf functions whose contracts speak of integers alone.
 // A caller that holds an `Int` and calls these sees neither bits nor `to_z`, and `omega` reads every contract.
 
+#![tactic(auto)]
+
 ghost use Rattle.std.specs.Prelude.{◌≡◌, ◌+◌, ◌*◌, ◌<◌, ◌≤◌, nat_abs, leb};
 ghost use Rattle.std.specs.Int.Signed.{lt_z, le_z};
 ghost use Rattle.whole.specs.Parts.{up, down, Within, Sum, Diff, Times, Minus, Natural};
@@ -12,7 +14,7 @@ pub mod flags;
 pub mod held;
 pub mod places;
 
-#[derive(Drop)]
+#[derive(Clone, Copy)]
 pub struct Int {
     pub z: i32,
 }
