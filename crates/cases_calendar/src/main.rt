@@ -1,177 +1,163 @@
 // The calendar's cases, run: dates at its edges, weekdays, working days, and when results are due. Each call's answer is printed.
 
 #![tactic(auto)]
+
 use calendar_rules::{Date, DateAnswer, DayAnswer, Refusal, WeekdayAnswer};
-use libc::STDOUT_FILENO;
+use std::io;
 
-fn text(t: &[u8]) {
-    io::write_all(STDOUT_FILENO, t);
-}
-
-fn natural(before: &[u8], n: u32) {
-    text(before);
-    io::print_decimal(STDOUT_FILENO, n as u64);
-}
-
-fn refused(r: Refusal) {
-    natural(b" refused ", calendar_numbers::number_of(r));
+fn refused(rt: &impl Print, r: Refusal) -> io::Result<()> {
+    let number = calendar_numbers::number_of(r);
+    print!(rt; " refused {number}")
 }
 
 // ---- dates and days
 
 // The weekday and the date of a day.
-fn told(day: u32) {
+fn told(rt: &impl Print, day: u32) -> io::Result<()> {
     match calendar::weekday(day) {
-        WeekdayAnswer::Found(w) => natural(b" weekday ", calendar_numbers::weekday_number(w)),
-        WeekdayAnswer::Refused(r) => refused(r),
+        WeekdayAnswer::Found(w) => {
+            let number = calendar_numbers::weekday_number(w);
+            print!(rt; " weekday {number}")?;
+        }
+        WeekdayAnswer::Refused(r) => refused(rt, r)?,
     }
     match calendar::date_from_day(day) {
-        DateAnswer::Found(d) => {
-            natural(b" date ", d.year);
-            natural(b" ", d.month);
-            natural(b" ", d.day);
-        }
-        DateAnswer::Refused(r) => refused(r),
+        DateAnswer::Found(d) => print!(rt; " date {} {} {}", d.year, d.month, d.day),
+        DateAnswer::Refused(r) => refused(rt, r),
     }
 }
 
 // A date's day, its weekday, and the date that it turns back into.
-fn on(year: u32, month: u32, day: u32) {
-    natural(b"  ", year);
-    natural(b" ", month);
-    natural(b" ", day);
-    text(b":");
+fn on(rt: &impl Print, year: u32, month: u32, day: u32) -> io::Result<()> {
+    print!(rt; "  {year} {month} {day}:")?;
     match calendar::day_from_date(Date { year, month, day }) {
         DayAnswer::Found(n) => {
-            natural(b" day ", n);
-            told(n);
+            print!(rt; " day {n}")?;
+            told(rt, n)?;
         }
-        DayAnswer::Refused(r) => refused(r),
+        DayAnswer::Refused(r) => refused(rt, r)?,
     }
-    text(b"\n");
+    println!(rt)
 }
 
-fn of_day(day: u32) {
-    natural(b"  day ", day);
-    text(b":");
-    told(day);
-    text(b"\n");
+fn of_day(rt: &impl Print, day: u32) -> io::Result<()> {
+    print!(rt; "  day {day}:")?;
+    told(rt, day)?;
+    println!(rt)
 }
 
-fn dates() {
-    text(b"dates\n");
-    on(2000, 1, 1);
-    on(2000, 2, 29);
-    on(2000, 3, 1);
-    on(2001, 2, 29);
-    on(2004, 2, 29);
-    on(2026, 11, 17);
-    on(2099, 12, 31);
-    on(2100, 2, 28);
-    on(2100, 2, 29);
-    on(2100, 3, 1);
-    on(2200, 2, 29);
-    on(2273, 10, 15);
+fn dates(rt: &impl Print) -> io::Result<()> {
+    println!(rt; "dates")?;
+    on(rt, 2000, 1, 1)?;
+    on(rt, 2000, 2, 29)?;
+    on(rt, 2000, 3, 1)?;
+    on(rt, 2001, 2, 29)?;
+    on(rt, 2004, 2, 29)?;
+    on(rt, 2026, 11, 17)?;
+    on(rt, 2099, 12, 31)?;
+    on(rt, 2100, 2, 28)?;
+    on(rt, 2100, 2, 29)?;
+    on(rt, 2100, 3, 1)?;
+    on(rt, 2200, 2, 29)?;
+    on(rt, 2273, 10, 15)
 }
 
-fn no_dates() {
-    text(b"no dates, and days at the end\n");
-    on(1999, 12, 31);
-    on(2026, 0, 1);
-    on(2026, 13, 1);
-    on(2026, 1, 0);
-    on(2026, 1, 32);
-    on(2026, 4, 31);
-    on(2273, 10, 16);
-    on(4294967295, 1, 1);
-    of_day(99999);
-    of_day(100000);
-    of_day(4294967295);
+fn no_dates(rt: &impl Print) -> io::Result<()> {
+    println!(rt; "no dates, and days at the end")?;
+    on(rt, 1999, 12, 31)?;
+    on(rt, 2026, 0, 1)?;
+    on(rt, 2026, 13, 1)?;
+    on(rt, 2026, 1, 0)?;
+    on(rt, 2026, 1, 32)?;
+    on(rt, 2026, 4, 31)?;
+    on(rt, 2273, 10, 16)?;
+    on(rt, 4294967295, 1, 1)?;
+    of_day(rt, 99999)?;
+    of_day(rt, 100000)?;
+    of_day(rt, 4294967295)
 }
 
 // ---- working days
 
-fn found(a: DayAnswer) {
+fn found(rt: &impl Print, a: DayAnswer) -> io::Result<()> {
     match a {
-        DayAnswer::Found(n) => natural(b": day ", n),
+        DayAnswer::Found(n) => println!(rt; ": day {n}"),
         DayAnswer::Refused(r) => {
-            text(b":");
-            refused(r);
+            print!(rt; ":")?;
+            refused(rt, r)?;
+            println!(rt)
         }
     }
-    text(b"\n");
 }
 
-fn after(day: u32, count: u32, holidays: &[i32]) {
-    natural(b"  day ", day);
-    natural(b" and ", count);
-    found(calendar::working_day(day, count, holidays));
+fn after(rt: &impl Print, day: u32, count: u32, holidays: &[i32]) -> io::Result<()> {
+    print!(rt; "  day {day} and {count}")?;
+    found(rt, calendar::working_day(day, count, holidays))
 }
 
-fn due(day: u32, holidays: &[i32]) {
-    natural(b"  day ", day);
-    text(b" and its results");
-    found(calendar::results_due(day, holidays));
+fn due(rt: &impl Print, day: u32, holidays: &[i32]) -> io::Result<()> {
+    print!(rt; "  day {day} and its results")?;
+    found(rt, calendar::results_due(day, holidays))
 }
 
 // Day 0 is a Saturday, day 2 a Monday, day 6 a Friday.
-fn counted() {
+fn counted(rt: &impl Print) -> io::Result<()> {
     let none: [i32; 0] = [];
-    text(b"no holidays\n");
-    after(0, 0, &none);
-    after(1, 0, &none);
-    after(0, 1, &none);
-    after(2, 1, &none);
-    after(6, 1, &none);
-    after(6, 5, &none);
-    after(0, 71428, &none);
-    after(0, 71429, &none);
-    after(0, 4294967295, &none);
-    due(5, &none);
-    due(6, &none);
+    println!(rt; "no holidays")?;
+    after(rt, 0, 0, &none)?;
+    after(rt, 1, 0, &none)?;
+    after(rt, 0, 1, &none)?;
+    after(rt, 2, 1, &none)?;
+    after(rt, 6, 1, &none)?;
+    after(rt, 6, 5, &none)?;
+    after(rt, 0, 71428, &none)?;
+    after(rt, 0, 71429, &none)?;
+    after(rt, 0, 4294967295, &none)?;
+    due(rt, 5, &none)?;
+    due(rt, 6, &none)
 }
 
-fn passed_over() {
-    text(b"holidays 2, 3, 7, 9 and 10\n");
+fn passed_over(rt: &impl Print) -> io::Result<()> {
+    println!(rt; "holidays 2, 3, 7, 9 and 10")?;
     let holidays = [2, 3, 7, 9, 10];
-    after(3, 0, &holidays);
-    after(1, 1, &holidays);
-    after(2, 1, &holidays);
-    after(6, 1, &holidays);
-    after(5, 6, &holidays);
-    due(6, &holidays);
+    after(rt, 3, 0, &holidays)?;
+    after(rt, 1, 1, &holidays)?;
+    after(rt, 2, 1, &holidays)?;
+    after(rt, 6, 1, &holidays)?;
+    after(rt, 5, 6, &holidays)?;
+    due(rt, 6, &holidays)
 }
 
-fn at_the_end() {
-    text(b"holiday 99999\n");
+fn at_the_end(rt: &impl Print) -> io::Result<()> {
+    println!(rt; "holiday 99999")?;
     let last = [99999];
-    after(99997, 1, &last);
-    after(99998, 1, &last);
-    after(99999, 0, &last);
-    due(99996, &last);
-    due(99997, &last);
+    after(rt, 99997, 1, &last)?;
+    after(rt, 99998, 1, &last)?;
+    after(rt, 99999, 0, &last)?;
+    due(rt, 99996, &last)?;
+    due(rt, 99997, &last)
 }
 
-fn refusals() {
-    text(b"holidays that are none: 5 and 5; 5 and 4; -1; 5 and 100000\n");
+fn refusals(rt: &impl Print) -> io::Result<()> {
+    println!(rt; "holidays that are none: 5 and 5; 5 and 4; -1; 5 and 100000")?;
     let twice = [5, 5];
-    after(100000, 1, &twice);
-    after(99999, 1, &twice);
-    after(0, 0, &twice);
+    after(rt, 100000, 1, &twice)?;
+    after(rt, 99999, 1, &twice)?;
+    after(rt, 0, 0, &twice)?;
     let falling = [5, 4];
-    after(0, 0, &falling);
+    after(rt, 0, 0, &falling)?;
     let negative = [-1];
-    after(0, 1, &negative);
+    after(rt, 0, 1, &negative)?;
     let beyond = [5, 100000];
-    after(0, 1, &beyond);
-    due(0, &beyond);
+    after(rt, 0, 1, &beyond)?;
+    due(rt, 0, &beyond)
 }
 
-fn main() {
-    dates();
-    no_dates();
-    counted();
-    passed_over();
-    at_the_end();
-    refusals();
+fn main(rt: HostRuntime) -> io::Result<()> {
+    dates(&rt)?;
+    no_dates(&rt)?;
+    counted(&rt)?;
+    passed_over(&rt)?;
+    at_the_end(&rt)?;
+    refusals(&rt)
 }

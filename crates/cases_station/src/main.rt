@@ -1,6 +1,7 @@
 // The cases that carry no star, each number of refusal once, and whole lists of calls: each call is run, and its answer printed.
 
 #![tactic(auto)]
+
 mod calls;
 mod gluten;
 mod lists;
@@ -11,28 +12,30 @@ mod say;
 mod sheets;
 mod worked;
 
-fn main() {
-    worked::deviations();
-    worked::adjustments();
-    worked::figures();
-    worked::days_and_bases();
-    numbers::stations();
-    numbers::sizes();
-    numbers::sheet_numbers();
-    numbers::lines(numbers::scans());
-    order::accepted();
-    order::refused();
-    phases::in_turn();
-    phases::opened_and_repaired();
-    phases::repaired_check();
-    phases::order();
-    gluten::intercepts();
-    gluten::derived();
-    gluten::scans();
-    gluten::numbers();
-    lists::repaired(lists::adjusted());
-    lists::shut_by_none();
-    lists::shut_by_bound();
-    lists::corn();
-    lists::five_sets();
+use std::io;
+
+fn main(rt: HostRuntime) -> io::Result<()> {
+    worked::deviations(&rt)?;
+    worked::adjustments(&rt)?;
+    worked::figures(&rt)?;
+    worked::days_and_bases(&rt)?;
+    numbers::stations(&rt)?;
+    numbers::sizes(&rt)?;
+    numbers::sheet_numbers(&rt)?;
+    numbers::lines(&rt, numbers::scans(&rt)?)?;
+    order::accepted(&rt)?;
+    order::refused(&rt)?;
+    phases::in_turn(&rt)?;
+    phases::opened_and_repaired(&rt)?;
+    phases::repaired_check(&rt)?;
+    phases::order(&rt)?;
+    gluten::intercepts(&rt)?;
+    gluten::derived(&rt)?;
+    gluten::scans(&rt)?;
+    gluten::numbers(&rt)?;
+    lists::repaired(&rt, lists::adjusted(&rt)?)?;
+    lists::shut_by_none(&rt)?;
+    lists::shut_by_bound(&rt)?;
+    lists::corn(&rt)?;
+    lists::five_sets(&rt)
 }

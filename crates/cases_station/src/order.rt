@@ -3,6 +3,7 @@ use super::calls::Places;
 use super::sheets::Sample;
 use super::{calls, say, sheets};
 use station_rules::{Outcome, STATION_PLACES, SheetAnswer};
+use std::io;
 use whole::flags;
 
 // A call's answer, and the places that it left.
@@ -13,12 +14,12 @@ struct Came {
 }
 
 // A sheet of the three samples in this order, and of three more.
-fn entered(s: Places, a: Sample, b: Sample, c: Sample) -> Came {
+fn entered(rt: &impl Print, s: Places, a: Sample, b: Sample, c: Sample) -> io::Result<Came> {
     let numbers = sheets::three(a, b, c);
     let mut left = s;
     let answer = station::sheet(&mut left, 2, 0, &numbers);
-    say::sheet(2, 0, answer);
-    Came { answer, left }
+    say::sheet(rt, 2, 0, answer)?;
+    Ok(Came { answer, left })
 }
 
 fn same_outcome(x: Outcome, y: Outcome) -> bool {
@@ -60,35 +61,44 @@ fn came_alike(x: Came, y: Came) -> bool {
 }
 
 // The sheet in all six orders on an open line, and whether each came to the same as the first.
-fn every_order(a: Sample, b: Sample, c: Sample) {
-    let s = calls::alike(calls::fresh(0), 1, 1000, 1000);
-    let first = entered(s, a, b, c);
-    let mut same = came_alike(first, entered(s, a, c, b));
-    same = flags::both(same, came_alike(first, entered(s, b, a, c)));
-    same = flags::both(same, came_alike(first, entered(s, b, c, a)));
-    same = flags::both(same, came_alike(first, entered(s, c, a, b)));
-    same = flags::both(same, came_alike(first, entered(s, c, b, a)));
-    say::orders(same);
+fn every_order(rt: &impl Print, a: Sample, b: Sample, c: Sample) -> io::Result<()> {
+    let s = calls::alike(rt, calls::fresh(0), 1, 1000, 1000)?;
+    let first = entered(rt, s, a, b, c)?;
+    let mut same = came_alike(first, entered(rt, s, a, c, b)?);
+    same = flags::both(same, came_alike(first, entered(rt, s, b, a, c)?));
+    same = flags::both(same, came_alike(first, entered(rt, s, b, c, a)?));
+    same = flags::both(same, came_alike(first, entered(rt, s, c, a, b)?));
+    same = flags::both(same, came_alike(first, entered(rt, s, c, b, a)?));
+    say::orders(rt, same)?;
+    Ok(())
 }
 
 // One with a third; one that deviates by 102 and again by 22; one that deviates by -115 and again by -95, so that it is dropped.
-pub(crate) fn accepted() {
-    say::heading(b"open; three samples in every order: a third; 102, again 22; -115, again -95");
+pub(crate) fn accepted(rt: &impl Print) -> io::Result<()> {
+    say::heading(
+        rt,
+        "open; three samples in every order: a third; 102, again 22; -115, again -95",
+    )?;
     every_order(
+        rt,
         [1000, 990, 1021, 992, -1, -1],
         [1100, 1151, 1151, -1, 1110, 1112],
         [900, 840, 845, -1, 850, 855],
-    );
+    )?;
+    Ok(())
 }
 
 // The lowest number, whichever sample it stands in.
-pub(crate) fn refused() {
+pub(crate) fn refused(rt: &impl Print) -> io::Result<()> {
     say::heading(
-        b"open; three samples in every order: a third missing; a number 10001; an again pair that is not due",
-    );
+        rt,
+        "open; three samples in every order: a third missing; a number 10001; an again pair that is not due",
+    )?;
     every_order(
+        rt,
         [1000, 990, 1021, -1, -1, -1],
         [1100, 10001, 1100, -1, -1, -1],
         [900, 900, 900, -1, 900, 900],
-    );
+    )?;
+    Ok(())
 }

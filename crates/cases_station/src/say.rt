@@ -1,117 +1,106 @@
 // An answer as a line of text: the call's day and line, then the refusal's number or the values. All of it comes from the call and its answer.
-use libc::STDOUT_FILENO;
 use station_rules::{
     CHECK_DUE, Certificate, MarketAnswer, OPEN, OpenAnswer, Outcome, Refusal, RepairAnswer,
     SheetAnswer,
 };
+use std::io;
 use whole::Int;
 
-fn text(t: &[u8]) {
-    io::write_all(STDOUT_FILENO, t);
-}
-
-fn natural(before: &[u8], n: u32) {
-    text(before);
-    io::print_decimal(STDOUT_FILENO, n as u64);
-}
-
-fn whole_number(before: &[u8], z: i32) {
+fn whole_number(rt: &impl Print, before: &str, z: i32) -> io::Result<()> {
     let x = Int { z };
     if !whole::size_at_most(x, 1000000) {
-        text(before);
-        text(b"more than a million");
+        print!(rt; "{before}more than a million")
     } else if whole::less(x, Int { z: 0 }) {
-        text(before);
-        natural(b"-", whole::size(x));
+        let n = whole::size(x);
+        print!(rt; "{before}-{n}")
     } else {
-        natural(before, whole::size(x));
+        let n = whole::size(x);
+        print!(rt; "{before}{n}")
     }
 }
 
-fn refusal(r: Refusal) {
-    natural(b": refused ", station_refusals::number(r));
-    text(b"\n");
+fn refusal(rt: &impl Print, r: Refusal) -> io::Result<()> {
+    let number = station_refusals::number(r);
+    println!(rt; ": refused {number}")
 }
 
-fn phase(p: u32) {
+fn phase(rt: &impl Print, p: u32) -> io::Result<()> {
     match p {
-        OPEN => text(b" open"),
-        CHECK_DUE => text(b" check due"),
-        _ => text(b" no phase of an outcome"),
+        OPEN => print!(rt; " open"),
+        CHECK_DUE => print!(rt; " check due"),
+        _ => print!(rt; " no phase of an outcome"),
     }
 }
 
 // S, N, the phase after it and the intercept change.
-fn outcome(o: Outcome) {
+fn outcome(rt: &impl Print, o: Outcome) -> io::Result<()> {
+    let count = o.count;
     let after = o.phase;
-    whole_number(b": sheet S ", o.sum);
-    natural(b" N ", o.count);
-    phase(after);
-    whole_number(b" ", o.change);
-    text(b"\n");
+    whole_number(rt, ": sheet S ", o.sum)?;
+    print!(rt; " N {count}")?;
+    phase(rt, after)?;
+    whole_number(rt, " ", o.change)?;
+    println!(rt)
 }
 
 // The newest set's day, the intercept, B and the two figures.
-fn certificate(c: Certificate) {
-    natural(b": certificate day ", c.day);
-    whole_number(b" intercept ", c.intercept);
-    whole_number(b" basis ", c.basis);
-    natural(b" figures ", c.figure);
-    natural(b" ", c.converted);
-    text(b"\n");
+fn certificate(rt: &impl Print, c: Certificate) -> io::Result<()> {
+    let day = c.day;
+    let figure = c.figure;
+    let converted = c.converted;
+    print!(rt; ": certificate day {day}")?;
+    whole_number(rt, " intercept ", c.intercept)?;
+    whole_number(rt, " basis ", c.basis)?;
+    println!(rt; " figures {figure} {converted}")
 }
 
 // What the calls below it are about.
-pub(crate) fn heading(t: &[u8]) {
-    text(t);
-    text(b"\n");
+pub(crate) fn heading(rt: &impl Print, t: &str) -> io::Result<()> {
+    println!(rt; "{t}")
 }
 
 // The day and the line that a call names.
-fn asked(day: u32, line: usize) {
-    natural(b"  day ", day);
-    text(b" line ");
-    io::print_decimal(STDOUT_FILENO, line as u64);
+fn asked(rt: &impl Print, day: u32, line: usize) -> io::Result<()> {
+    print!(rt; "  day {day} line {line}")
 }
 
-pub(crate) fn opening(row: usize, a: OpenAnswer) {
-    text(b"  row ");
-    io::print_decimal(STDOUT_FILENO, row as u64);
+pub(crate) fn opening(rt: &impl Print, row: usize, a: OpenAnswer) -> io::Result<()> {
+    print!(rt; "  row {row}")?;
     match a {
-        OpenAnswer::Opened => text(b": opened\n"),
-        OpenAnswer::Refused(r) => refusal(r),
+        OpenAnswer::Opened => println!(rt; ": opened"),
+        OpenAnswer::Refused(r) => refusal(rt, r),
     }
 }
 
-pub(crate) fn sheet(day: u32, line: usize, a: SheetAnswer) {
-    asked(day, line);
+pub(crate) fn sheet(rt: &impl Print, day: u32, line: usize, a: SheetAnswer) -> io::Result<()> {
+    asked(rt, day, line)?;
     match a {
-        SheetAnswer::Accepted(o) => outcome(o),
-        SheetAnswer::Refused(r) => refusal(r),
+        SheetAnswer::Accepted(o) => outcome(rt, o),
+        SheetAnswer::Refused(r) => refusal(rt, r),
     }
 }
 
 // Whether the calls above it came to the same.
-pub(crate) fn orders(same: bool) {
+pub(crate) fn orders(rt: &impl Print, same: bool) -> io::Result<()> {
     if same {
-        text(b"  the answers are alike, and so are the 47 places after each\n");
+        println!(rt; "  the answers are alike, and so are the 47 places after each")
     } else {
-        text(b"  the answers or the 47 places after each are not alike\n");
+        println!(rt; "  the answers or the 47 places after each are not alike")
     }
 }
 
-pub(crate) fn repair(day: u32, a: RepairAnswer) {
-    natural(b"  day ", day);
+pub(crate) fn repair(rt: &impl Print, day: u32, a: RepairAnswer) -> io::Result<()> {
+    print!(rt; "  day {day}")?;
     match a {
-        RepairAnswer::Repaired => text(b": repaired\n"),
-        RepairAnswer::Refused(r) => refusal(r),
+        RepairAnswer::Repaired => println!(rt; ": repaired"),
+        RepairAnswer::Refused(r) => refusal(rt, r),
     }
 }
 
-pub(crate) fn market(day: u32, line: usize, a: MarketAnswer) {
-    asked(day, line);
+pub(crate) fn market(rt: &impl Print, day: u32, line: usize, a: MarketAnswer) -> io::Result<()> {
+    asked(rt, day, line)?;
     match a {
-        MarketAnswer::Certified(c) => certificate(c),
-        MarketAnswer::Refused(r) => refusal(r),
+        MarketAnswer::Certified(c) => certificate(rt, c),
+        MarketAnswer::Refused(r) => refusal(rt, r),
     }
 }

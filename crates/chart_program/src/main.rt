@@ -1,30 +1,43 @@
 // The chart program: a chart text from standard input; the wheat chart's output, or the refusal's line, to standard output.
 
 #![tactic(auto)]
+
+ghost use Rattle.std.specs.Prelude.{◌≡◌, ◌≤◌, ◌×◌, length, IfOk};
+
 use chart_rules::{MOST_TEXT, PROGRAM_ROOM};
-use libc::{STDERR_FILENO, STDIN_FILENO, STDOUT_FILENO};
+use std::io;
+use std::io::{Read, Write};
 
 // One byte more than a text may have, so that a longer one is seen.
 const TEXT_ROOM: usize = MOST_TEXT + 1;
 
-// Writes the first k bytes; false where not all of them could be written.
-fn print_front(bytes: &[u8], k: usize) -> bool {
-    if k <= bytes.len() {
-        return io::write_all(STDOUT_FILENO, &bytes[0..k]);
+// Reads from the front on, in pieces, to the input's end or the room's: how many bytes it read.
+fn read_text(input: &mut impl Read, room: &mut [u8]) -> io::Result<usize>
+    ensures { IfOk result (λ n. n ≤ length room.new) }
+{
+    let mut n = 0;
+    while n < room.len() {
+        let more = input.read(&mut room[n..])?;
+        if more == 0 {
+            break;
+        }
+        n += more;
     }
-    false
+    Ok(n)
 }
 
-fn main() {
-    // It is read in pieces, to its end.
+// Writes the first k bytes.
+fn print_front(to: &mut impl Write, bytes: &[u8], k: usize) -> io::Result<()> {
+    if k <= bytes.len() {
+        to.write_all(&bytes[..k])?;
+    }
+    Ok(())
+}
+
+fn main(rt: HostRuntime) -> io::Result<()> {
     let mut text = [0u8; TEXT_ROOM];
-    let n = io::read_full(STDIN_FILENO, &mut text);
+    let n = read_text(&mut rt.stdin(), &mut text)?;
     let mut out = [0u8; PROGRAM_ROOM];
     let k = text_print::print_text(&text[..n], &mut out);
-    if !print_front(&out, k) {
-        io::write_all(
-            STDERR_FILENO,
-            b"chart_program: the output could not be written\n",
-        );
-    }
+    print_front(&mut rt.stdout(), &out, k)
 }
