@@ -1,7 +1,7 @@
 /* The core beside plain C: first both are given random and hostile calls, a sheet also with its samples in another order,
  * every day and date of the calendar, and every byte of their answers and states is compared; then they are timed.
  *
- *     cc -O2 -Iinclude bench/bench.c bench/plain.c target/staticlib/libabi.a -o target/bench
+ *     cc -O2 -Iinclude bench/bench.c bench/plain.c crates/abi/out/libabi.a -o target/bench
  *     target/bench          21 rounds after one to warm up
  *     target/bench 1        the comparison, and one round to see that it runs
  *

@@ -1,7 +1,7 @@
 /* Many calls alike, of the core or of plain C, for counting instructions: the difference of two counts is that of the calls
  * between.
  *
- *     cc -O2 -Iinclude -Ibench examples/instructions.c bench/plain.c target/staticlib/libabi.a -o target/instructions
+ *     cc -O2 -Iinclude -Ibench examples/instructions.c bench/plain.c crates/abi/out/libabi.a -o target/instructions
  *     for n in 1000 2000; do valgrind --tool=callgrind target/instructions core market-corn $n; done
  */
 #include "plain.h"
