@@ -1,6 +1,7 @@
 // A sheet's numbers judged by a line's limits and intercept: numbers 4 to 7, each over the whole sheet, else S and N.
 
 #![tactic(auto)]
+
 mod answer;
 
 ghost use Rattle.std.specs.Prelude.{◌≡◌, ◌≤◌};

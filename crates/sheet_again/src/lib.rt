@@ -1,6 +1,7 @@
 // The pass of an again round (docs/SPECIFICATION.md, "The reference sheet", rules 3 and 4): number 7, S and N, one part of the lent numbers after another.
 
 #![tactic(auto)]
+
 ghost use Rattle.std.specs.Prelude.{◌≤◌};
 ghost use Rattle.whole.specs.Parts.{Within};
 ghost use Rattle.station_rules.specs.Sheets.{samples_of};

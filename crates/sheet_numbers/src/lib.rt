@@ -1,6 +1,7 @@
 // A sample's six numbers, taken from its part of the sheet, and number 5 (docs/SPECIFICATION.md, "The reference sheet").
 
 #![tactic(auto)]
+
 ghost use Rattle.std.specs.Prelude.{◌≡◌, ◌*◌, ◌<◌, length, get_or};
 ghost use Rattle.station_rules.specs.Sheets.{samples_of, is_result, absent, wrong_number};
 ghost use Rattle.sheet_numbers.specs.Samples.{sample_of, sample_from, allowed, in_ranges, has_again};

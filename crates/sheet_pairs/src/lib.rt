@@ -1,6 +1,7 @@
 // Rule 1: the pair used is the closest of first-second, first-third, second-third, among equals the earlier named.
 
 #![tactic(auto)]
+
 ghost use Rattle.std.specs.Prelude.{◌≡◌};
 ghost use Rattle.whole.specs.Parts.{Within};
 ghost use Rattle.station_rules.specs.Sheets.{spread, closer, pair_sum, closest_pair};

@@ -2,6 +2,7 @@
 // again round. Nothing of a sample is kept but what it adds to these.
 
 #![tactic(auto)]
+
 ghost use Rattle.std.specs.Prelude.{◌≡◌, ◌≤◌};
 ghost use Rattle.whole.specs.Parts.{Within};
 ghost use Rattle.station_rules.specs.Sheets.{samples_of};

@@ -1,6 +1,7 @@
 // One sample of a sheet (docs/SPECIFICATION.md, "The reference sheet", rules 1 to 3): whether a third is due, its deviation, and what an again round makes of it.
 
 #![tactic(auto)]
+
 ghost use Rattle.std.specs.Prelude.{◌≡◌, ◌≤◌};
 ghost use Rattle.whole.specs.Parts.{Within};
 ghost use Rattle.station_rules.specs.Sheets.{third_due, wrong_third, used_pair, deviation, deviates, first_deviation};
