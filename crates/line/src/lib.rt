@@ -1,6 +1,7 @@
 // A line in its 15 places (docs/SPECIFICATION.md, "A line between sheets"): read, and written after a sheet or a repair.
 
 #![tactic(auto)]
+
 ghost use Rattle.std.specs.Prelude.{◌≡◌, ◌+◌, ◌≤◌, length};
 ghost use Rattle.whole.specs.Parts.{Within};
 ghost use Rattle.whole.specs.Places.{place};

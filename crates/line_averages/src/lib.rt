@@ -1,6 +1,7 @@
 // The tests of a set's averages (docs/SPECIFICATION.md, "A line between sheets").
 
 #![tactic(auto)]
+
 mod answer;
 
 ghost use Rattle.std.specs.Prelude.{◌≡◌, [], ◌≤◌, take, get_or};

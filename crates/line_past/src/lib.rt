@@ -1,6 +1,7 @@
 // A line's past sets (docs/SPECIFICATION.md, "A line between sheets"): how many are valid on a day, and whether all lie on one side of zero.
 
 #![tactic(auto)]
+
 pub mod sides;
 
 ghost use Rattle.std.specs.Prelude.{◌≡◌, ◌+◌, ◌≤◌, take, length};

@@ -1,6 +1,7 @@
 // What a set does to its line (docs/SPECIFICATION.md, "A line between sheets").
 
 #![tactic(auto)]
+
 ghost use Rattle.std.specs.Prelude.{◌≡◌};
 ghost use Rattle.whole.specs.Parts.{Within};
 ghost use Rattle.station_rules.specs.Lines.{adjust_by, verdict_of, change_of};

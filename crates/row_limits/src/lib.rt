@@ -1,6 +1,7 @@
 // The limits of each row's lines (docs/SPECIFICATION.md, "Product rows").
 
 #![tactic(auto)]
+
 ghost use Rattle.std.specs.Prelude.{◌≡◌};
 ghost use Rattle.station_rules.specs.Rows.{wheat, corn, limits};
 ghost use Rattle.row_limits.specs.Lines.{limits_in};

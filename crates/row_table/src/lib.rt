@@ -1,6 +1,7 @@
 // The product rows (docs/SPECIFICATION.md, "Product rows"): samples, standard basis, lines, and the limits of a row's line.
 
 #![tactic(auto)]
+
 ghost use Rattle.std.specs.Prelude.{◌≡◌};
 ghost use Rattle.station_rules.specs.Rows.{row_exists, samples, standard_basis, line_count, limits_of};
 

@@ -1,6 +1,7 @@
 // A station in its 47 places: what is read there, and what an accepted call writes.
 
 #![tactic(auto)]
+
 ghost use Rattle.std.specs.Prelude.{◌≡◌, ◌≤◌, ◌<◌, length};
 ghost use Rattle.whole.specs.Parts.{Within};
 ghost use Rattle.station_rules.specs.Lines.{change_of};

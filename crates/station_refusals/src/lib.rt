@@ -1,6 +1,7 @@
 // A refusal's number, for what prints or hands it on.
 
 #![tactic(auto)]
+
 ghost use Rattle.std.specs.Prelude.{◌≡◌};
 ghost use Rattle.station_rules.specs.Refusals.{number_of};
 

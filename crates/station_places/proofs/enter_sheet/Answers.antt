@@ -1,0 +1,25 @@
+use mathlib.Core.Path.{subst⁻¹}
+use Prim.Native.Nat.{ℕ, ◌≤◌}
+use lib.IntN.{ℤ}
+use lib.ListN.{take, drop}
+use Rattle.whole.specs.Parts.{Within}
+use Rattle.whole.specs.Places.{place}
+use Rattle.station_rules.specs.Lines.{change_of}
+use Rattle.station_rules.specs.Places.{line_in, line_start}
+use Rattle.line.specs.Ranges.{SetFits}
+use Rattle.station_places.proofs.LentLines.{fifteen, same_held, same_intercept}
+use Rattle.station_places.proofs.enter_sheet.Goals as goal
+
+pub enter_sheet-requires-clause-part_bound : goal.enter_sheet-requires-clause-part_bound
+enter_sheet-requires-clause-part_bound c =
+    let w = c.args.state.now in
+    let line = c.args.line in
+    subst⁻¹ (λ (k : ℕ). ((line_in (take k (drop (line_start line) w))).held ≤ 4) × SetFits c.args.p) (fifteen (line_start line))
+    (subst⁻¹ (λ (n : ℕ). n ≤ 4) (same_held w line c.requires.state_len.1) c.requires.line_bound.0, c.requires.line_bound.1)
+
+pub enter_sheet-requires-clause-within : goal.enter_sheet-requires-clause-within
+enter_sheet-requires-clause-within c =
+    let w = c.args.state.now in
+    let line = c.args.line in
+    subst⁻¹ (λ (k : ℕ). (Within 1000 1000 (place (take k (drop (line_start line) w)) 0)) × (Within 2000000 2000000 (change_of c.args.v))) (fifteen (line_start line))
+    (subst⁻¹ (λ (z : ℤ). Within 1000 1000 z) (same_intercept w line c.requires.state_len.1) c.requires.within.0, c.requires.within.1)
