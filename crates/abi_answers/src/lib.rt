@@ -1,6 +1,7 @@
 // What an exported call that has no values hands back.
 
 #![tactic(auto)]
+
 ghost use Rattle.std.specs.Prelude.{◌≡◌};
 ghost use Rattle.abi_answers.specs.Given.{accepted as accepted_answer, refused as refused_answer};
 

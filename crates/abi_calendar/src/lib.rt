@@ -1,6 +1,7 @@
 // What the exported calendar functions hand back: small structs of 32-bit numbers.
 
 #![tactic(auto)]
+
 ghost use Rattle.std.specs.Prelude.{◌≡◌};
 ghost use Rattle.abi_calendar.specs.CalendarAnswers.{day_given, date_given, weekday_given};
 

@@ -2,6 +2,7 @@
 // days in one pass over the holidays, which stops at the first that is bad; 100000 of them at most are good.
 
 #![tactic(auto)]
+
 ghost use Rattle.std.specs.Prelude.{◌≡◌, ◌≤◌};
 ghost use Rattle.calendar_rules.specs.Weekdays.{weekday_on};
 ghost use Rattle.calendar_rules.specs.Calls.{day_of, date_of, weekday_of, working_day, results_due};

@@ -1,6 +1,7 @@
 // Dates and days turned into each other by arithmetic, with no loop.
 
 #![tactic(auto)]
+
 ghost use Rattle.std.specs.Prelude.{◌≡◌, ◌≤◌, ◌<◌};
 ghost use Rattle.calendar_rules.specs.Dates.{leap_year, month_length, date_on};
 ghost use Rattle.calendar_rules.specs.Counting.{year_start, lacking, month_start, day_number};

@@ -1,6 +1,7 @@
 // The number of a refusal, and that of a weekday.
 
 #![tactic(auto)]
+
 ghost use Rattle.std.specs.Prelude.{◌≡◌};
 ghost use Rattle.calendar_rules.specs.Weekdays.{weekday_number};
 ghost use Rattle.calendar_rules.specs.Calls.{number_of};

@@ -1,6 +1,7 @@
 // Working days by arithmetic: Monday to Friday without a loop over days, and one holiday more.
 
 #![tactic(auto)]
+
 ghost use Rattle.std.specs.Prelude.{◌≡◌, [], ◌-◌, ◌≤◌, ◌<◌};
 ghost use Rattle.calendar_rules.specs.Working.{monday_to_friday};
 ghost use Rattle.calendar_rules.specs.Laws.{up_to, WorkingDaysAfter};

@@ -1,6 +1,7 @@
 // What a market test is asked for (docs/SPECIFICATION.md, "Wet gluten"): numbers 23 and 24, the basis that the figure stands at, and its intercept.
 
 #![tactic(auto)]
+
 ghost use Rattle.std.specs.Prelude.{◌≡◌};
 ghost use Rattle.whole.specs.Parts.{Within};
 ghost use Rattle.station_rules.specs.Markets.{basis_from, derived_intercept, asked_intercept, other_class, other_basis};

@@ -1,6 +1,7 @@
 // Numbers 12, 25, 26, 13 and 14 of a market test, and the certificate (docs/SPECIFICATION.md, "Market test and moisture basis").
 
 #![tactic(auto)]
+
 ghost use Rattle.std.specs.Prelude.{◌≡◌, true, ◌<◌};
 ghost use Rattle.station_rules.specs.Held.{phase_word, line_values};
 ghost use Rattle.station_rules.specs.Markets.{within};

@@ -1,6 +1,7 @@
 // The numbers of a market test: the basis, the newest set's day, and the two figures.
 
 #![tactic(auto)]
+
 ghost use Rattle.std.specs.Prelude.{◌≡◌, ◌≤◌, ◌<◌, take};
 ghost use Rattle.station_rules.specs.Markets.{basis_of, newest_day, within, too_high, tenths, tenths_at};
 ghost use Rattle.line_past.specs.Ranges.{Held};

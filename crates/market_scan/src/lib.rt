@@ -1,6 +1,7 @@
 // What the analyser answered: the float asked for.
 
 #![tactic(auto)]
+
 ghost use Rattle.std.specs.Prelude.{◌≡◌};
 ghost use Rattle.station_rules.specs.Readings.{corn_float};
 ghost use Rattle.market_scan.specs.Scans.{line_picked, gluten_picked, picked_of};
