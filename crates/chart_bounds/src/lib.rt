@@ -1,6 +1,7 @@
 // Numbers 19 to 21: a set's week, size and results.
 
 #![tactic(auto)]
+
 ghost use Rattle.std.specs.Prelude.{◌≡◌};
 ghost use Rattle.chart_rules.specs.Refusals.{bad_week, bad_size, outside as outside_of, bad_result};
 

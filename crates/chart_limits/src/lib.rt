@@ -1,6 +1,7 @@
 // The chart rules: a row's limits, and the absolute and tolerance limits of a set after the sets before it.
 
 #![tactic(auto)]
+
 ghost use Rattle.std.specs.Prelude.{◌≡◌, ◌&&◌, ◌||◌, ◌≤◌, take};
 ghost use Rattle.chart_sets.specs.Fits.{SetFits, AllFit};
 ghost use Rattle.chart_rules.specs.Rows.{limits_of};

@@ -1,6 +1,7 @@
 // A set's output line: what it says, and its bytes.
 
 #![tactic(auto)]
+
 ghost use Rattle.std.specs.Prelude.{◌≡◌, ◌+◌, ◌≤◌, length};
 ghost use Rattle.decimal.specs.Put.{Put};
 ghost use Rattle.chart_sets.specs.Fits.{SetFits, AllFit};

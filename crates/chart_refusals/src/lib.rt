@@ -1,6 +1,7 @@
 // Which refusal applies to a call that charts one set.
 
 #![tactic(auto)]
+
 ghost use Rattle.std.specs.Prelude.{◌≡◌};
 ghost use Rattle.chart_rules.specs.Refusals.{number_of, refusal_of};
 
@@ -21,6 +22,7 @@ pub fn number_of(refusal: Refusal) -> u32
 }
 
 // The first refusal that applies, for a buffer with room for so many bytes.
+#[tactic(auto, unfolding(chart_rules::specs::Refusals::refusal_of))]
 pub fn judge_call(chart: Chart, week: u32, numbers: &[i32], room: usize) -> Judgement
     ensures { result ≡ refusal_of chart week numbers.now room }
 {

@@ -7,6 +7,7 @@ use native.Mathlib.Omega.{arith}
 use lib.ListN.{length, take, get_or}
 use Rattle.whole.proofs.Tests.{or_false}
 use Rattle.chart_sets.specs.Fits.{SetFits, AllFit}
+use Rattle.chart_rules.specs.Sets.{blank_set}
 use Rattle.chart_rules.specs.Run.{run_by, run}
 use Rattle.chart_rules.specs.declared.ChartSet.{ChartSet}
 use Rattle.chart_sets.proofs.Fits.{fit_at}
@@ -60,3 +61,7 @@ module _ (limit : ℕ) (s d : ChartSet) where
   run_four (suc (suc (suc (suc (suc n))))) (x ∷ y ∷ z ∷ w ∷ []) h e =
       ap (λ (t : Bool). run_by limit (s ∷ x ∷ y ∷ z ∷ []) || (run_by limit (s ∷ x ∷ y ∷ w ∷ []) || (run_by limit (s ∷ x ∷ z ∷ w ∷ []) || t)))
       (sym (or_false (run_by limit (s ∷ y ∷ z ∷ w ∷ []))))
+
+-- the same, with the sets standing first so that a tactic finds them
+pub run_short_held : (limit : ℕ) (s : ChartSet) (n : ℕ) (l : List ChartSet) → n < 3 → length l ≡ 4 → false ≡ run limit s (take n l)
+run_short_held limit s n l h e = run_short limit s blank_set n l h e

@@ -1,6 +1,7 @@
 // The run of the average: this set and three of the four before it.
 
 #![tactic(auto)]
+
 ghost use Rattle.std.specs.Prelude.{◌≡◌, [], ◌∷◌, map, ◌≤◌, take};
 ghost use Rattle.whole.specs.Parts.{Within};
 ghost use Rattle.whole.specs.Lists.{total, above as above_of, below as below_of};
@@ -71,6 +72,7 @@ fn run_by(limit: u32, s: ChartSet, p: ChartSet, q: ChartSet, w: ChartSet) -> boo
 }
 
 // This set and any three of the held ones.
+#[tactic(auto, using(crate::proofs::Held::run_short_held))]
 pub fn run(limit: u32, s: ChartSet, held: u32, sets: [ChartSet; HELD_SETS]) -> bool
     requires { (limit ≤ 1000) × (SetFits s × AllFit (take held sets)) }
     ensures { result ≡ run_of limit s (take held sets) }

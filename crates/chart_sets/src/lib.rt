@@ -1,6 +1,7 @@
 // A set of a control chart: its pairs of results turned into count, sum and range.
 
 #![tactic(auto)]
+
 ghost use Rattle.std.specs.Prelude.{◌≡◌, false, ◌-ℤ◌, length};
 ghost use Rattle.whole.specs.Parts.{Within};
 ghost use Rattle.chart_rules.specs.Refusals.{bad_size, bad_result};

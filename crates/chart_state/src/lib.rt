@@ -1,6 +1,7 @@
 // A chart in 15 places of its caller's state: read where it lies, its soundness, opened, and written after a set.
 
 #![tactic(auto)]
+
 ghost use Rattle.std.specs.Prelude.{◌≡◌, ◌+◌, ◌<◌, ◌≤◌, length, take};
 ghost use Rattle.whole.specs.Lists.{all};
 ghost use Rattle.whole.specs.Places.{place, natural};

@@ -1,6 +1,7 @@
 // Reads the value lines of the chart text: four decimals, single spaces, a line feed.
 
 #![tactic(auto)]
+
 ghost use Rattle.std.specs.Prelude.{◌≡◌};
 ghost use Rattle.chart_rules.specs.TextLines.{field as field_of, line_at, names_line, starts_with};
 

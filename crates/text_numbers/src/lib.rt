@@ -1,6 +1,7 @@
 // Decimal numbers of a chart text, read: a lone 0, or up to five digits without a leading zero.
 
 #![tactic(auto)]
+
 ghost use Rattle.std.specs.Prelude.{◌≡◌, ◌<◌, drop};
 ghost use Rattle.chart_rules.specs.TextLines.{is_digit, digits, number_at};
 
@@ -37,6 +38,7 @@ fn digits_at(text: &[u8], at: usize, first: u32) -> Number
 }
 
 // The number at position at.
+#[tactic(auto, using(chart_rules::proofs::Numbers::number_zero))]
 pub fn number_at(text: &[u8], at: usize) -> Number
     ensures { result ≡ number_at text.now at }
 {
