@@ -1,6 +1,7 @@
 // What the exported station functions are asked and hand back: kinds by their numbers, and small structs of 32-bit numbers.
 
 #![tactic(auto)]
+
 ghost use Rattle.std.specs.Prelude.{◌≡◌};
 ghost use Rattle.station_rules.specs.declared.SheetAnswer.TheVariants.{Accepted};
 ghost use Rattle.station_rules.specs.declared.MarketAnswer.TheVariants.{Certified};
@@ -75,6 +76,7 @@ const AS_IS_BASIS: u32 = 3;
 // What a kind of basis that there isn't asks for: number 10 refuses it, or 24 where gluten is asked.
 const NO_BASIS: i32 = -1;
 
+#[tactic(auto, unfolding(crate::specs::StationAnswers::scan_of))]
 pub fn scan_of(kind: u32, first: f32, second: f32, third: f32) -> Scan
     ensures { result ≡ scan_of kind first second third }
 {
@@ -93,6 +95,7 @@ pub fn scan_of(kind: u32, first: f32, second: f32, third: f32) -> Scan
     }
 }
 
+#[tactic(auto, unfolding(crate::specs::StationAnswers::asked_of))]
 pub fn asked_of(kind: u32) -> Asked
     ensures { result ≡ asked_of kind }
 {
@@ -104,6 +107,7 @@ pub fn asked_of(kind: u32) -> Asked
     }
 }
 
+#[tactic(auto, unfolding(crate::specs::StationAnswers::basis_for))]
 pub fn basis_for(kind: u32, b: i32) -> Basis
     ensures { result ≡ basis_for kind b }
 {
@@ -120,6 +124,7 @@ pub fn basis_for(kind: u32, b: i32) -> Basis
 
 // ---- handed back
 
+#[tactic(auto, unfolding(crate::specs::StationAnswers::reading_given))]
 pub fn read(r: Reading) -> GrainValue
     ensures { result ≡ reading_given r }
 {
