@@ -28,6 +28,7 @@ fn adjust(intercept: Int, average: Int) -> Verdict
 }
 
 // What a set does to its line: N = 0 shuts it, else the tests due decide.
+#[tactic(auto, unfolding(station_rules::specs::Lines::verdict_of))]
 pub fn verdict_on(limits: Limits, l: Line, day: u32, set: Set) -> Verdict
     requires { (Limited limits) × ((LineFits l) × (SetsOf 1 set.sum set.count)) }
     ensures { (result ≡ verdict_of limits (line_values l) day set) × Within 2000000 2000000 (change_of result) }

@@ -2,6 +2,7 @@
 // "Refused calls").
 
 #![tactic(auto)]
+
 ghost use Rattle.std.specs.Prelude.{◌≡◌, ◌&&◌, ◌≤◌, leb, length, take};
 ghost use Rattle.whole.specs.Lists.{all};
 ghost use Rattle.station_rules.specs.Judging.{day_check};
