@@ -98,6 +98,7 @@ fn within_last(day: u32, count: u32, found: u64) -> DayAnswer
 }
 
 // The day that is so many working days after a day; the holidays are the days listed. Found first without holidays, then with one more of them at a time.
+#[tactic(auto, using(calendar_rules::proofs::Working::no_start))]
 pub fn working_day(day: u32, count: u32, holidays: &[i32]) -> DayAnswer
     ensures { result ≡ working_day day count holidays.now }
 {

@@ -6,10 +6,11 @@ use lib.IntN.{ℤ, nat_abs}
 use borrow.Author.Tests.{lt-ltb, le-ltb}
 use Rattle.station_rules.specs.Refusals.{first_number}
 use Rattle.station_rules.specs.Lines.{LinePhase, new_line, open_line, adjusted_line, shut_line, Values}
-use Rattle.station_rules.specs.Held.{phase_word}
+use Rattle.station_rules.specs.Held.{phase_word, line_values}
 use Rattle.station_rules.specs.Markets.{newest_day, too_high}
 use Rattle.station_rules.specs.declared.Refusal.TheVariants.{OldSet, TooHigh, ShutLine}
 use Rattle.station_rules.specs.declared.Certificate.{Certificate}
+use Rattle.station_rules.specs.declared.Line.{Line}
 use Rattle.station_rules.specs.declared.MarketAnswer.TheVariants.{Certified, Refused}
 use Rattle.market_certificate.specs.Certified.{answer_by, certificate_by, certified_open, refusal_by, last_checks, certified_of}
 
@@ -51,3 +52,7 @@ module _ (a : ℕ) (v : Values) (day : ℕ) (i b h : ℤ) where
     pub certified : too_high a (nat_abs b) (nat_abs h) ≡ false → (c : Certificate) → c ≡ certificate_by a v i b h → Certified c ≡ certified_open a v day i b h
     unfolding certified_open
     certified e c q = simp (le-ltb (newest_day v.past + 7) day recent, e) (ap Certified q)
+
+-- an open line, by the number that it holds
+pub open_line_is : (a : ℕ) (l : Line) (day : ℕ) (i b h : ℤ) → l.phase ≡ 1 → certified_open a (line_values l) day i b h ≡ certified_of a (line_values l) day i b h
+open_line_is a l day i b h e = open_is a (line_values l) day i b h (ap phase_word e)

@@ -51,6 +51,7 @@ fn not_open(phase: u32) -> Refusal
 }
 
 // By the intercept i, the basis B and the corrected value h.
+#[tactic(auto, using(crate::proofs::CertifiedLaws::open_line_is))]
 pub fn certify(a: u32, l: Line, day: u32, i: Int, b: Int, h: Int) -> MarketAnswer
     requires a_bound { (a < 10000) × ((LineFits l) × (Within 20000000 20000000 i.z)) }
     requires z_value { (within 0 5000 b.z ≡ true) × (within 0 10000 h.z ≡ true) }

@@ -11,7 +11,6 @@ use mir.Syntax.{w32}
 use mir.Val.{SFits}
 use Rattle.whole.proofs.Read.{rd, back}
 use Rattle.whole.specs.Places.{natural}
-use Rattle.calendar_rules.proofs.Working.{no_start}
 use Rattle.calendar.proofs.Passing.{Passing, passing_start, passing_next, passing_stop, passing_done}
 use Rattle.calendar.proofs.working_day.Goals as goal
 
@@ -19,11 +18,8 @@ use Rattle.calendar.proofs.working_day.Goals as goal
 read : (z : ℤ) (h : ℕ) → h ≡ natural (rd z) → SFits w32 z → h ≡ natural z
 read z h e f = e ∙ ap natural (back f).is
 
-pub returns-then-day-gt-LAST_DAY : goal.returns-then-day-gt-LAST_DAY
-returns-then-day-gt-LAST_DAY c = sym (no_start c.args.day c.args.count _ c.if-day-gt-LAST_DAY.true)
-
 pub loop-i-init : goal.loop-i-init
-loop-i-init c = (omega (arith, c.if-day-gt-LAST_DAY.false), passing_start _ _ _ _ c.without_holidays-found.ensures.0 c.without_holidays-found.ensures.1)
+loop-i-init c = (omega arith, passing_start _ _ _ _ c.without_holidays-found.ensures.0 c.without_holidays-found.ensures.1)
 
 pub returns-then-either : goal.returns-then-either
 returns-then-either c =
