@@ -2,6 +2,7 @@
 // nothing, but for a refused opening, which leaves a fresh station of row 0.
 
 #![tactic(auto)]
+
 ghost use Rattle.std.specs.Prelude.{◌≡◌};
 ghost use Rattle.station_rules.specs.InPlace.{open_in, sheet_in, repair_in};
 ghost use Rattle.station_rules.specs.declared.SheetAnswer.{SheetAnswer};
