@@ -2,6 +2,7 @@
 // its caller's places.
 
 #![tactic(auto)]
+
 ghost use Rattle.std.specs.Prelude.{◌≡◌, ◌≤◌};
 ghost use Rattle.station_rules.specs.Held.{line_values};
 ghost use Rattle.station_rules.specs.Places.{station_in};
