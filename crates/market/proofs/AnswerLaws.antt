@@ -8,6 +8,7 @@ use native.Mathlib.Omega.{arith}
 use lib.Dec.{ltb}
 use lib.Ieee.{Float}
 use lib.IntN.{ℤ}
+use lib.ListN.{length}
 use borrow.Author.Tests.{lt-ltb, le-ltb, ltb-false, not-true}
 use Rattle.whole.proofs.Tests.{to_true, or_none}
 use Rattle.reading.specs.Reading.{in_range, answer_of}
@@ -23,7 +24,9 @@ use Rattle.station_rules.specs.Stations.{values_of, market_station, market_resul
 use Rattle.station_rules.specs.Places.{station_in}
 use Rattle.station_rules.specs.InPlace.{Left, with_day, market_left, market_in}
 use Rattle.station_rules.specs.declared.Refusal.TheVariants.{UnsoundStation, BadDay, UnknownLine, WrongScan, BadFloat, BadBasis, BadValue, GlutenClass, GlutenBasis}
+use Rattle.station_rules.specs.declared.Refusal.{Refusal}
 use Rattle.station_rules.specs.declared.Scan.{Scan}
+use Rattle.station_rules.proofs.InPlace.{all_places}
 use Rattle.station_rules.specs.declared.Asked.{Asked}
 use Rattle.station_rules.specs.declared.Basis.{Basis}
 use Rattle.station_rules.specs.Held.{Station}
@@ -135,3 +138,18 @@ unfolding market_in
 left_by words day line scan asked basis a e =
     let q = e ∙ answer_is (station_in words) day line scan asked basis in
     λ i. record { answer = q i; places = market_left (q i) words (with_day words day) }
+
+-- the same, of an answer that is known to be a certificate or a refusal, and of what was written
+module _ (words : List ℤ) (day line : ℕ) (scan : Scan) (asked : Asked) (basis : Basis) (a : MarketAnswer) where
+  pub certified_first : (c : Certificate) → a ≡ Certified c → a ≡ answered_of (station_in words) day line scan asked basis → (length words ≡ 47) × (day ≤ 99999)
+  certified_first c is e =
+      let o = in_order (station_in words) day line scan asked basis c (sym is ∙ e) in
+      (all_places words o.0, o.1)
+
+  pub certified_left : (c : Certificate) (new : List ℤ) → a ≡ Certified c → a ≡ answered_of (station_in words) day line scan asked basis → new ≡ with_day words day
+      → ◌≡◌ {A = Left MarketAnswer} (record { answer = Certified c; places = new }) (market_in words day line scan asked basis)
+  certified_left c new is e w = (λ i. record { answer = Certified c; places = w i }) ∙ left_by words day line scan asked basis (Certified c) (sym is ∙ e)
+
+  pub refused_left : (r : Refusal) → a ≡ Refused r → a ≡ answered_of (station_in words) day line scan asked basis
+      → ◌≡◌ {A = Left MarketAnswer} (record { answer = Refused r; places = words }) (market_in words day line scan asked basis)
+  refused_left r is e = left_by words day line scan asked basis (Refused r) (sym is ∙ e)
