@@ -1,6 +1,7 @@
 // Control charts: opening, and one set charted.
 
 #![tactic(auto)]
+
 ghost use Rattle.std.specs.Prelude.{◌≡◌, ◌+◌, ◌-◌, ◌≤◌, length};
 ghost use Rattle.decimal.specs.Put.{Put};
 ghost use Rattle.chart_rules.specs.Calls.{result_of, bytes_of};

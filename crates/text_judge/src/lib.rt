@@ -1,6 +1,7 @@
 // A chart text's lines judged in turn: numbers 15 to 19 and 21, with the text line.
 
 #![tactic(auto)]
+
 ghost use Rattle.std.specs.Prelude.{◌≡◌, cond, ◌+◌, ◌<◌, ◌≤◌, eqb, length};
 ghost use Rattle.chart_rules.specs.Judging.{first_ruling, value_lines, lines_checks, verdict, starts, judged};
 
@@ -43,6 +44,7 @@ fn judge_lines(text: &[u8]) -> TextVerdict
 }
 
 // The verdict on a chart text.
+#[tactic(auto, unfolding(chart_rules::specs::Judging::judged))]
 pub fn judge(text: &[u8]) -> TextVerdict
     ensures { result ≡ judged text.now }
 {

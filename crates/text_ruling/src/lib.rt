@@ -1,6 +1,7 @@
 // A value line of a chart text judged after the line before it: numbers 18, 19 and 21.
 
 #![tactic(auto)]
+
 ghost use Rattle.std.specs.Prelude.{◌≡◌, [], ◌∷◌, ◌≤◌, pos};
 ghost use Rattle.chart_rules.specs.Refusals.{bad_result};
 ghost use Rattle.chart_rules.specs.Judging.{text_number, is_next, is_start, ruling};
