@@ -1,6 +1,7 @@
 // A chart text judged and charted whole.
 
 #![tactic(auto)]
+
 ghost use Rattle.std.specs.Prelude.{◌≡◌, ◌+◌, ◌*◌, ◌≤◌, length};
 ghost use Rattle.decimal.specs.Put.{Put};
 ghost use Rattle.chart_rules.specs.Judging.{value_lines};

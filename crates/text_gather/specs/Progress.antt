@@ -1,5 +1,5 @@
 -- For the proofs of the code, no rule: what the set under way and the code's progress stand for.
-use Rattle.std.specs.Prelude.{ℕ, ◌+◌, ◌*◌, ◌≡◌, List, ℤ, take}
+use Rattle.std.specs.Prelude.{◌+◌, ◌*◌, ◌≡◌, List, ℤ, take}
 use Rattle.chart_rules.specs.Places.{chart_at}
 use Rattle.chart_rules.specs.Gathering.{Gathered, none, joined, finished, closed, kept}
 use Rattle.chart_rules.specs.Output.{chart_after}

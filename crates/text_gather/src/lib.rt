@@ -1,6 +1,7 @@
 // A chart text's lines grouped into sets, each set charted when it is complete.
 
 #![tactic(auto)]
+
 ghost use Rattle.std.specs.Prelude.{◌≡◌, ◌+◌, ◌*◌, ◌<◌, ◌≤◌, pos, length};
 ghost use Rattle.decimal.specs.Put.{Put};
 ghost use Rattle.chart_rules.specs.Places.{chart_at};

@@ -1,6 +1,7 @@
 // What the chart program prints.
 
 #![tactic(auto)]
+
 ghost use Rattle.std.specs.Prelude.{◌≡◌, ◌≤◌, length};
 ghost use Rattle.decimal.specs.Put.{Put};
 ghost use Rattle.chart_rules.specs.Printing.{refusal_bytes, printed_of};

@@ -1,0 +1,25 @@
+-- `text_gather::joined` meets its contract.
+use mathlib.Core.Path.{◌≡◌, refl, ◌∙◌}
+use native.Mathlib.Omega.{arith}
+use Prim.Native.Nat.{◌+◌, ◌*◌}
+use lib.ListN.{length, take, set}
+use mir.Syntax.{w32}
+use mir.Val.{SFits}
+use mir.ValLaws.{to_z-of_z}
+use Rattle.text_gather.specs.Progress.{seen}
+use Rattle.text_gather.proofs.Seen.{grown}
+use borrow.Author.Rules.{rules}
+use Rattle.text_gather.proofs.joined.Goals as goal
+
+pub returns : goal.returns
+unfolding seen
+returns c =
+    let s = c.args.s in
+    let v = c.args.v in
+    let ten : length s.numbers ≡ 10 = search rules in
+    let fo : SFits w32 c.signed.result = search rules in
+    let fm : SFits w32 c.signed-2.result = search rules in
+    let o = to_z-of_z w32 _ fo ∙ c.signed.ensures in
+    let m = to_z-of_z w32 _ fm ∙ c.signed-2.ensures in
+    let is = (λ i. take (2 * (s.count + 1)) (set (set s.numbers (2 * s.count) (o i)) (2 * s.count + 1) (m i))) ∙ grown s.numbers s.count _ _ (omega arith) in
+    record { is = λ i. record { week = v.week; numbers = is i }; count = refl; week = refl }
