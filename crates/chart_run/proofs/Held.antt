@@ -62,6 +62,6 @@ module _ (limit : ℕ) (s d : ChartSet) where
       ap (λ (t : Bool). run_by limit (s ∷ x ∷ y ∷ z ∷ []) || (run_by limit (s ∷ x ∷ y ∷ w ∷ []) || (run_by limit (s ∷ x ∷ z ∷ w ∷ []) || t)))
       (sym (or_false (run_by limit (s ∷ y ∷ z ∷ w ∷ []))))
 
--- the same, with the sets standing first so that a tactic finds them
+-- the same, with no element asked for past the end, so that a tactic finds every argument in the goal
 pub run_short_held : (limit : ℕ) (s : ChartSet) (n : ℕ) (l : List ChartSet) → n < 3 → length l ≡ 4 → false ≡ run limit s (take n l)
 run_short_held limit s n l h e = run_short limit s blank_set n l h e
