@@ -3,6 +3,7 @@
 // fresh state of row 0.
 
 #![tactic(auto)]
+
 pub mod calendars;
 pub mod charts;
 pub mod stations;

@@ -1,6 +1,7 @@
 // What the exported chart functions hand back: small structs of 32-bit numbers.
 
 #![tactic(auto)]
+
 ghost use Rattle.std.specs.Prelude.{◌≡◌, ◌≤◌};
 ghost use Rattle.chart_rules.specs.declared.ChartAnswer.TheVariants.{Charted};
 ghost use Rattle.abi_chart.specs.ChartAnswers.{open_given, flag_of, set_refused, set_given, text_given, line_length, text_length};
