@@ -49,13 +49,13 @@ module _ (hs : List ℤ) (day count : ℕ) where
   is_pos (pos m) n e l = ap pos (sym e)
   is_pos (negsuc m) n e l = absurd (omega arith)
 
-  nextOf_near : (d : ℕ) → next_of d ≤ d + 3
+  next_of_near : (d : ℕ) → next_of d ≤ d + 3
   unfolding next_of
-  nextOf_near d = by_test (eqb ((d + 5) % 7) 4) (λ (t : Bool). cond t (d + 3) (d + 1) ≤ d + 3) (λ e. omega arith) (λ e. omega arith)
+  next_of_near d = by_test (eqb ((d + 5) % 7) 4) (λ (t : Bool). cond t (d + 3) (d + 1) ≤ d + 3) (λ e. omega arith) (λ e. omega arith)
 
   passed_near : (h d : ℕ) → passed_of day h d ≤ d + 3
   unfolding passed_of
-  passed_near h d = by_test (ltb day h && leb h d && monday_to_friday h) (λ (t : Bool). cond t (next_of d) d ≤ d + 3) (λ e. nextOf_near d) (λ e. omega arith)
+  passed_near h d = by_test (ltb day h && leb h d && monday_to_friday h) (λ (t : Bool). cond t (next_of d) d ≤ d + 3) (λ e. next_of_near d) (λ e. omega arith)
 
   module _ (i found least h : ℕ) (g : Passing i found least) (inside : i < length hs) (read : h ≡ natural (get_or hs i (pos 0))) where
     abbrev rest : List ℤ

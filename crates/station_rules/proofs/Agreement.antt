@@ -436,11 +436,11 @@ pub reached : (b : Book) (ls : List Line) → Agrees ls b → (calls : List Call
 reached b ls a [] = (ls, a)
 reached b ls a (c ∷ cs) = let k = step b ls a c in reached (book_after b c) k.lines k.agrees cs
 
-fresh_getD : (i : ℕ) → get_or (replicate 3 fresh_line) i fresh_line ≡ fresh_line
-fresh_getD zero = refl
-fresh_getD (suc zero) = refl
-fresh_getD (suc (suc zero)) = refl
-fresh_getD (suc (suc (suc i))) = refl
+fresh_get_or : (i : ℕ) → get_or (replicate 3 fresh_line) i fresh_line ≡ fresh_line
+fresh_get_or zero = refl
+fresh_get_or (suc zero) = refl
+fresh_get_or (suc (suc zero)) = refl
+fresh_get_or (suc (suc (suc i))) = refl
 
 pub fresh_agrees : (row : ℕ) → T (row_exists row) → Agrees (replicate 3 fresh_line) (fresh_book row)
 unfolding book_values book_intercept book_phase book_past
@@ -449,7 +449,7 @@ fresh_agrees row h =
       exists = h;
       last = omega arith;
       three = refl;
-      lines = λ i. subst⁻¹ (λ (l : Line). LineAgrees (samples row) 0 l (book_values i [])) (fresh_getD i) (fresh_line_lem (samples row) 0);
+      lines = λ i. subst⁻¹ (λ (l : Line). LineAgrees (samples row) 0 l (book_values i [])) (fresh_get_or i) (fresh_line_lem (samples row) 0);
     }
 
 -- for every list of calls from a fresh station of any product row, each call is answered as the book answers it

@@ -132,9 +132,9 @@ pub natural_of : (z : ℤ) → down z ≡ 0 → Natural (nat_abs z) z
 natural_of (pos n) h = natural n
 natural_of (negsuc n) h = absurd (omega arith)
 
-pub nonNeg_of : (z : ℤ) → down z ≡ 0 → T (non_neg z)
-nonNeg_of (pos n) h = tt
-nonNeg_of (negsuc n) h = absurd (omega arith)
+pub non_neg_of : (z : ℤ) → down z ≡ 0 → T (non_neg z)
+non_neg_of (pos n) h = tt
+non_neg_of (negsuc n) h = absurd (omega arith)
 
 -- a bound for `mul` where neither factor is a numeral
 pub product : (a b : ℤ) {m n : ℕ} → up a + down a ≤ m → up b + down b ≤ n → (up a + down a) * (up b + down b) ≤ m * n
