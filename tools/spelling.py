@@ -1,7 +1,7 @@
 #!/usr/bin/env python3
 """Brings the repository's own names in clauses, definitions and proofs to one spelling: words in snake case, types and modules in camel case.
 
-usage: python3 tools/spelling.py [--dry]      at the top of the repository
+usage: python3 tools/spelling.py [--dry]      once, at the top of the tree that port.py made
 
 `namesLike` and `names-like` become `names_like`, in .antt files, in the clauses of .rt files and in must-fail edits. A name that a file takes from a
 library keeps its spelling there, and so do Rattle's own names of goals and steps, which a dash joins. In comments only what stands between backquotes
@@ -104,6 +104,9 @@ def turn_line(line, mark, names, kept, seen):
 
 def main(argv):
     root = "."
+    for p, name in TAKEN.items():
+        if name + "_lem" in open(os.path.join(root, p), encoding="utf-8").read():
+            raise SystemExit("spelling: it has run here already, and a second run would take a function for its lemma")
     own = own_crates(root)
     names, goals = declared(root)
     both = names.keys() & goals

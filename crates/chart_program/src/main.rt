@@ -26,12 +26,12 @@ fn read_text(input: &mut impl Read, room: &mut [u8]) -> io::Result<usize>
     Ok(n)
 }
 
-// Writes the first k bytes.
+// Writes the first k bytes; where there are fewer, nothing, and that is an error too.
 fn print_front(to: &mut impl Write, bytes: &[u8], k: usize) -> io::Result<()> {
-    if k <= bytes.len() {
-        to.write_all(&bytes[..k])?;
+    if bytes.len() < k {
+        return Err(io::ErrorKind::InvalidInput.into());
     }
-    Ok(())
+    to.write_all(&bytes[..k])
 }
 
 fn main(rt: HostRuntime) -> io::Result<()> {

@@ -123,7 +123,7 @@ module _ (words : List ℤ) (full : length words ≡ 47) where
   unfolding station_in row_in elements
   day_written day = subst (λ (w : List ℤ). station_in (with_day w day) ≡ market_station (station_in w) day) spelled_station refl
 
-  module _ (written : List ℤ) (whole-line : length written ≡ 15) where
+  module _ (written : List ℤ) (whole_line : length written ≡ 15) where
     -- with a line written: the station of places spelled out, and of a line spelled out
     abbrev IsWritten : ℕ → List ℤ → List ℤ → Type 0
     IsWritten line w l =
@@ -132,7 +132,7 @@ module _ (words : List ℤ) (full : length words ≡ 47) where
 
     abbrev both_spelled : (line : ℕ) → IsWritten line (elements (pos 0) words 47 0) (elements (pos 0) written 15 0) → IsWritten line words written
     both_spelled line r =
-        subst (λ (l : List ℤ). IsWritten line words l) (spelled (pos 0) written 15 whole-line)
+        subst (λ (l : List ℤ). IsWritten line words l) (spelled (pos 0) written 15 whole_line)
         (subst (λ (w : List ℤ). IsWritten line w (elements (pos 0) written 15 0)) spelled_station r)
 
     pub line_written : (line : ℕ) → line < 3 → IsWritten line words written

@@ -1,5 +1,5 @@
 -- What a sound station's line gives, so that nothing wraps.
-use mathlib.Core.Path.{◌≡◌, ap, subst}
+use mathlib.Core.Path.{◌≡◌, ap, ◌∙◌, subst}
 use mathlib.Core.Bool.{Bool, true, ◌&&◌}
 use mathlib.Core.List.{List, [], ◌∷◌}
 use Prim.Native.Nat.{ℕ, zero, suc, ◌*◌, ◌%◌, ◌≤◌, ◌<◌}
@@ -17,6 +17,7 @@ use Rattle.station_rules.specs.Lines.{sound_intercept}
 use Rattle.station_rules.specs.Held.{no_set, fresh_line}
 use Rattle.station_rules.specs.Soundness.{days_fall, sound_set, sound_held, sound_line, sound}
 use Rattle.station_rules.specs.Stations.{line_of}
+use Rattle.station_rules.specs.Judging.{day_check}
 use Rattle.whole.proofs.Elements.{at_all}
 use Rattle.station_rules.proofs.RowFacts.{row_facts}
 use Rattle.station_rules.specs.declared.PastSet.{PastSet}
@@ -25,6 +26,10 @@ use Rattle.station_rules.specs.Held.{Station}
 use Rattle.line_past.specs.Ranges.{SetsOf}
 use Rattle.line.specs.Ranges.{LineFits}
 use Rattle.station_soundness.proofs.SoundLaws.{held_most}
+
+-- number 2, by the day that was read
+pub day_read : {b : Bool} {d e : ℕ} (day : ℕ) → b ≡ (day_check d day).applies → d ≡ e → b ≡ (day_check e day).applies
+day_read day h e = h ∙ ap (λ (x : ℕ). (day_check x day).applies) e
 
 pub size_within : (m : ℕ) (z : ℤ) → nat_abs z ≤ m → Within m m z
 size_within m z h = record { over = omega (arith, size_parts z); under = omega (arith, size_parts z) }

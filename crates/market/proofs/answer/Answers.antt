@@ -1,24 +1,18 @@
 -- `market::answer` meets its contract: each way out is one law of `answered_of`.
-use mathlib.Core.Path.{◌≡◌, sym, ◌∙◌, ap, ap₂, subst⁻¹}
-use mathlib.Core.Bool.{Bool}
+use mathlib.Core.Path.{sym, ◌∙◌, ap, ap₂, subst⁻¹}
 use Prim.Native.Nat.{ℕ}
 use native.Mathlib.Omega.{arith}
 use Rattle.station_rules.specs.Rows.{line_count}
 use Rattle.station_rules.specs.Held.{line_values}
-use Rattle.station_rules.specs.Judging.{day_check}
 use Rattle.station_rules.specs.Places.{station_in}
 use Rattle.station_rules.specs.declared.Line.{Line}
 use Rattle.station_rules.proofs.RowFacts.{row_facts}
 use Rattle.station_rules.proofs.InPlace.{all_places}
 use Rattle.line.specs.Ranges.{LineFits}
-use Rattle.station_soundness.proofs.FitsLaws.{line_fits}
+use Rattle.station_soundness.proofs.FitsLaws.{day_read, line_fits}
 use Rattle.market.specs.Answers.{tested_of}
 use Rattle.market.proofs.AnswerLaws.{answer_unsound, answer_day, answer_line, answer_tested}
 use Rattle.market.proofs.answer.Goals as goal
-
--- number 2, by the day that was read
-bad_is : {b : Bool} {d e : ℕ} (day : ℕ) → b ≡ (day_check d day).applies → d ≡ e → b ≡ (day_check e day).applies
-bad_is day h e = h ∙ ap (λ (x : ℕ). (day_check x day).applies) e
 
 pub returns-then-not-is_sound : goal.returns-then-not-is_sound
 returns-then-not-is_sound c =
@@ -31,7 +25,7 @@ day_of-requires c = all_places c.args.state.now (sym c.is_sound.ensures ∙ c.if
 pub returns-then-is_bad_day : goal.returns-then-is_bad_day
 returns-then-is_bad_day c =
     let s = c.args in
-    answer_day (station_in s.state.now) s.day s.line s.scan s.asked s.basis (sym c.is_sound.ensures ∙ c.if-not-is_sound.false) (sym (bad_is s.day c.is_bad_day.ensures c.day_of.ensures) ∙ c.if-is_bad_day.true)
+    answer_day (station_in s.state.now) s.day s.line s.scan s.asked s.basis (sym c.is_sound.ensures ∙ c.if-not-is_sound.false) (sym (day_read s.day c.is_bad_day.ensures c.day_of.ensures) ∙ c.if-is_bad_day.true)
 
 pub row_of-row-requires : goal.row_of-row-requires
 row_of-row-requires c = all_places c.args.state.now (sym c.is_sound.ensures ∙ c.if-not-is_sound.false)
@@ -41,7 +35,7 @@ returns-then-line_count-line c =
     let s = c.args in
     let few = c.if-line_count-line.true in
     let lines = c.line_count.ensures ∙ ap line_count c.row_of-row.ensures in
-    answer_line (station_in s.state.now) s.day s.line s.scan s.asked s.basis (sym c.is_sound.ensures ∙ c.if-not-is_sound.false) (sym (bad_is s.day c.is_bad_day.ensures c.day_of.ensures) ∙ c.if-is_bad_day.false) (omega arith)
+    answer_line (station_in s.state.now) s.day s.line s.scan s.asked s.basis (sym c.is_sound.ensures ∙ c.if-not-is_sound.false) (sym (day_read s.day c.is_bad_day.ensures c.day_of.ensures) ∙ c.if-is_bad_day.false) (omega arith)
 
 pub line_of-l-requires : goal.line_of-l-requires
 line_of-l-requires c =
@@ -63,4 +57,4 @@ returns c =
     let lines = c.line_count.ensures ∙ ap line_count c.row_of-row.ensures in
     c.judge_scan.ensures
     ∙ ap₂ (λ (row : ℕ) (l : Line). tested_of row (line_values l) s.day s.line s.scan s.asked s.basis) c.row_of-row.ensures c.line_of-l.ensures
-    ∙ answer_tested (station_in s.state.now) s.day s.line s.scan s.asked s.basis (sym c.is_sound.ensures ∙ c.if-not-is_sound.false) (sym (bad_is s.day c.is_bad_day.ensures c.day_of.ensures) ∙ c.if-is_bad_day.false) (omega arith)
+    ∙ answer_tested (station_in s.state.now) s.day s.line s.scan s.asked s.basis (sym c.is_sound.ensures ∙ c.if-not-is_sound.false) (sym (day_read s.day c.is_bad_day.ensures c.day_of.ensures) ∙ c.if-is_bad_day.false) (omega arith)

@@ -1,25 +1,19 @@
 -- `station::judge` meets its contract: each way out is one law of `sheet_in`.
-use mathlib.Core.Path.{◌≡◌, sym, ◌∙◌, ap, subst⁻¹}
-use mathlib.Core.Bool.{Bool}
+use mathlib.Core.Path.{sym, ◌∙◌, ap, subst⁻¹}
 use Prim.Native.Nat.{ℕ, ◌<◌}
 use native.Mathlib.Omega.{arith}
 use Rattle.whole.proofs.Read.{back_in}
 use Rattle.station_rules.specs.Rows.{samples, line_count, limits_of}
-use Rattle.station_rules.specs.Judging.{day_check}
 use Rattle.station_rules.specs.Places.{station_in}
 use Rattle.station_rules.proofs.RowFacts.{row_facts}
 use Rattle.station_rules.proofs.InPlace.{all_places}
 use Rattle.station_rules.specs.declared.Line.{Line}
 use Rattle.sheet.specs.Judged.{judged_of}
 use Rattle.line.specs.Ranges.{LineFits}
-use Rattle.station_soundness.proofs.FitsLaws.{line_fits}
+use Rattle.station_soundness.proofs.FitsLaws.{day_read, line_fits}
 use Rattle.station.proofs.LimitLaws.{limits_fair}
 use Rattle.station.proofs.SheetLaws.{sheet_unsound, sheet_day, sheet_line_lem, ruled_by}
 use Rattle.station.proofs.judge.Goals as goal
-
--- number 2, by the day that was read
-bad_is : {b : Bool} {d e : ℕ} (day : ℕ) → b ≡ (day_check d day).applies → d ≡ e → b ≡ (day_check e day).applies
-bad_is day h e = h ∙ ap (λ (x : ℕ). (day_check x day).applies) e
 
 pub returns-then-not-is_sound : goal.returns-then-not-is_sound
 returns-then-not-is_sound c =
@@ -30,7 +24,7 @@ day_of-requires c = all_places c.args.state.now (sym c.is_sound.ensures ∙ c.if
 
 pub returns-then-is_bad_day : goal.returns-then-is_bad_day
 returns-then-is_bad_day c =
-    sheet_day c.args.state.now c.args.day c.args.line c.args.numbers.now (sym c.is_sound.ensures ∙ c.if-not-is_sound.false) (sym (bad_is c.args.day c.is_bad_day.ensures c.day_of.ensures) ∙ c.if-is_bad_day.true)
+    sheet_day c.args.state.now c.args.day c.args.line c.args.numbers.now (sym c.is_sound.ensures ∙ c.if-not-is_sound.false) (sym (day_read c.args.day c.is_bad_day.ensures c.day_of.ensures) ∙ c.if-is_bad_day.true)
 
 pub row_of-row-requires : goal.row_of-row-requires
 row_of-row-requires c = all_places c.args.state.now (sym c.is_sound.ensures ∙ c.if-not-is_sound.false)
@@ -39,7 +33,7 @@ pub returns-then-line_count-line : goal.returns-then-line_count-line
 returns-then-line_count-line c =
     let few = c.if-line_count-line.true in
     let lines = c.line_count.ensures ∙ ap line_count c.row_of-row.ensures in
-    sheet_line_lem c.args.state.now c.args.day c.args.line c.args.numbers.now (sym c.is_sound.ensures ∙ c.if-not-is_sound.false) (sym (bad_is c.args.day c.is_bad_day.ensures c.day_of.ensures) ∙ c.if-is_bad_day.false) (omega arith)
+    sheet_line_lem c.args.state.now c.args.day c.args.line c.args.numbers.now (sym c.is_sound.ensures ∙ c.if-not-is_sound.false) (sym (day_read c.args.day c.is_bad_day.ensures c.day_of.ensures) ∙ c.if-is_bad_day.false) (omega arith)
 
 pub line_of-l-requires : goal.line_of-l-requires
 line_of-l-requires c =
@@ -71,6 +65,6 @@ returns c =
     let fits = subst⁻¹ LineFits c.line_of-l.ensures (line_fits station c.args.line right here) in
     let limits_are = c.limits_of-limits.ensures ∙ ap (λ (row : ℕ). limits_of row c.args.line) c.row_of-row.ensures in
     let b = back_in fits.small tt tt in
-    ruled_by c.args.state.now c.args.day c.args.line c.args.numbers.now right (sym (bad_is c.args.day c.is_bad_day.ensures c.day_of.ensures) ∙ c.if-is_bad_day.false) here _
+    ruled_by c.args.state.now c.args.day c.args.line c.args.numbers.now right (sym (day_read c.args.day c.is_bad_day.ensures c.day_of.ensures) ∙ c.if-is_bad_day.false) here _
     (c.judge.ensures
     ∙ (λ i. judged_of (limits_are i) ((b.is ∙ ap (λ (x : Line). x.intercept) c.line_of-l.ensures) i) ((c.sample_count-samples.ensures ∙ ap samples c.row_of-row.ensures) i) c.args.numbers.now))

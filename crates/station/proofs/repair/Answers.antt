@@ -1,6 +1,6 @@
 -- `station::repair` meets its contract: each way out is one law of `repair_in`.
 use mathlib.Core.Path.{◌≡◌, sym, ◌∙◌, ap}
-use mathlib.Core.Bool.{Bool, false}
+use mathlib.Core.Bool.{false}
 use mathlib.Core.List.{List}
 use Prim.Native.Nat.{ℕ, ◌≤◌}
 use native.Mathlib.Omega.{arith}
@@ -14,12 +14,9 @@ use Rattle.station_rules.specs.Places.{station_in}
 use Rattle.station_rules.specs.InPlace.{with_day, with_repaired, repair_places}
 use Rattle.station_rules.specs.declared.RepairAnswer.{RepairAnswer}
 use Rattle.station_rules.proofs.InPlace.{all_places, repaired_47}
+use Rattle.station_soundness.proofs.FitsLaws.{day_read}
 use Rattle.station.proofs.CallLaws.{repair_unsound, repair_day, repair_done}
 use Rattle.station.proofs.repair.Goals as goal
-
--- number 2, by the day that was read
-bad_is : {b : Bool} {d e : ℕ} (day : ℕ) → b ≡ (day_check d day).applies → d ≡ e → b ≡ (day_check e day).applies
-bad_is day h e = h ∙ ap (λ (x : ℕ). (day_check x day).applies) e
 
 -- a day that serves is one of the rules' days
 today : (d day : ℕ) → (day_check d day).applies ≡ false → day ≤ 99999
@@ -33,7 +30,7 @@ day_of-requires c = all_places c.args.state.now (sym c.is_sound.ensures ∙ c.if
 
 pub returns-then-is_bad_day : goal.returns-then-is_bad_day
 returns-then-is_bad_day c =
-    repair_day c.args.state.now c.args.day (sym c.is_sound.ensures ∙ c.if-not-is_sound.false) (sym (bad_is c.args.day c.is_bad_day.ensures c.day_of.ensures) ∙ c.if-is_bad_day.true)
+    repair_day c.args.state.now c.args.day (sym c.is_sound.ensures ∙ c.if-not-is_sound.false) (sym (day_read c.args.day c.is_bad_day.ensures c.day_of.ensures) ∙ c.if-is_bad_day.true)
 
 pub repair_line-requires : goal.repair_line-requires
 repair_line-requires c = (all_places c.args.state.now (sym c.is_sound.ensures ∙ c.if-not-is_sound.false), omega arith)
@@ -55,7 +52,7 @@ put_day-requires c =
     let one = ap length c.repair_line.ensures ∙ repaired_47 c.args.state.now full 0 (omega arith) in
     let two = ap length c.repair_line-2.ensures ∙ repaired_47 c.repair_line.new.state one 1 (omega arith) in (
       ap length c.repair_line-3.ensures ∙ repaired_47 c.repair_line-2.new.state two 2 (omega arith),
-      today (station_in c.args.state.now).day c.args.day (sym (bad_is c.args.day c.is_bad_day.ensures c.day_of.ensures) ∙ c.if-is_bad_day.false),
+      today (station_in c.args.state.now).day c.args.day (sym (day_read c.args.day c.is_bad_day.ensures c.day_of.ensures) ∙ c.if-is_bad_day.false),
     )
 
 pub returns : goal.returns
@@ -63,4 +60,4 @@ unfolding repair_places
 returns c =
     let all = c.repair_line-3.ensures ∙ ap (λ (v : List ℤ). with_repaired v 2) (c.repair_line-2.ensures ∙ ap (λ (v : List ℤ). with_repaired v 1) c.repair_line.ensures) in
     (λ i. record { answer = RepairAnswer.Repaired; places = (c.put_day.ensures ∙ ap (λ (v : List ℤ). with_day v c.args.day) all) i })
-    ∙ repair_done c.args.state.now c.args.day (sym c.is_sound.ensures ∙ c.if-not-is_sound.false) (sym (bad_is c.args.day c.is_bad_day.ensures c.day_of.ensures) ∙ c.if-is_bad_day.false)
+    ∙ repair_done c.args.state.now c.args.day (sym c.is_sound.ensures ∙ c.if-not-is_sound.false) (sym (day_read c.args.day c.is_bad_day.ensures c.day_of.ensures) ∙ c.if-is_bad_day.false)
