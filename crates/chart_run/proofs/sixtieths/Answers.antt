@@ -9,9 +9,9 @@ use Rattle.chart_rules.specs.Run.{sixtieths}
 use Rattle.chart_run.proofs.Averages.{sixty_over}
 use Rattle.chart_run.proofs.sixtieths.Goals as goal
 
-bound-After-mul : (c : goal.After-mul)
+bound : (c : goal.After-mul)
     → (up c.sum_of-sum.result.z + down c.sum_of-sum.result.z) * (up c.of_u32.result.z + down c.of_u32.result.z) ≤ 50000 * 60
-bound-After-mul c =
+bound c =
     let z = c.sum_of-sum.result.z in
     let w : Within 50000 50000 z = rw c.sum_of-sum.ensures c.requires.sum in
     product z c.of_u32.result.z {m = 50000} {n = 60}
@@ -23,4 +23,4 @@ unfolding sixtieths
 returns c =
     let x = c.sum_of-sum.ensures in
     let y = c.of_u32.ensures.is in
-    (c.mul.ensures.is ∙ (λ i. x i *ℤ y i), omega (arith, bound-After-mul c))
+    (c.mul.ensures.is ∙ (λ i. x i *ℤ y i), omega (arith, bound c))
