@@ -11,33 +11,33 @@ use calendar_rules::Date;
 pub extern "C" fn grain_day_from_date(year: u32, month: u32, day: u32) -> GrainDay
     ensures { result ≡ day_given (day_of (date year month day)) }
 {
-    abi_calendar::day_given(calendar::day_from_date(Date { year, month, day }))
+    calendar::day_from_date(Date { year, month, day }).into()
 }
 
 #[unsafe(no_mangle)]
 pub extern "C" fn grain_date_from_day(day: u32) -> GrainDate
     ensures { result ≡ date_given (date_of day) }
 {
-    abi_calendar::date_given(calendar::date_from_day(day))
+    calendar::date_from_day(day).into()
 }
 
 #[unsafe(no_mangle)]
 pub extern "C" fn grain_weekday_of_day(day: u32) -> GrainWeekday
     ensures { result ≡ weekday_given (weekday_of day) }
 {
-    abi_calendar::weekday_given(calendar::weekday(day))
+    calendar::weekday(day).into()
 }
 
 #[unsafe(no_mangle)]
 pub extern "C" fn grain_working_day(day: u32, count: u32, holidays: &[i32]) -> GrainDay
     ensures { result ≡ day_given (working_day day count holidays.now) }
 {
-    abi_calendar::day_given(calendar::working_day(day, count, holidays))
+    calendar::working_day(day, count, holidays).into()
 }
 
 #[unsafe(no_mangle)]
 pub extern "C" fn grain_results_due(day: u32, holidays: &[i32]) -> GrainDay
     ensures { result ≡ day_given (results_due day holidays.now) }
 {
-    abi_calendar::day_given(calendar::results_due(day, holidays))
+    calendar::results_due(day, holidays).into()
 }

@@ -7,10 +7,11 @@ use abi_chart::{GrainCharted, GrainWritten};
 use chart_rules::CHART_PLACES;
 
 #[unsafe(no_mangle)]
+#[tactic(auto, unfolding(abi_chart::specs::ChartAnswers::chart_open_call))]
 pub extern "C" fn grain_chart_open(state: &mut [i32; CHART_PLACES], row: usize) -> GrainAnswer
     ensures { record { given = result; places = state.new } ≡ chart_open_call row }
 {
-    abi_chart::opened(chart::open(state, row))
+    GrainAnswer::from(chart::open(state, row).map_err(u32::from))
 }
 
 #[unsafe(no_mangle)]

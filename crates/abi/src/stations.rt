@@ -11,17 +11,19 @@ use station_rules::STATION_PLACES;
 pub extern "C" fn grain_reading(percent: f32) -> GrainValue
     ensures { result ≡ reading_given (answer_of percent) }
 {
-    abi_station::read(reading::reading(percent))
+    GrainValue::from(reading::reading(percent))
 }
 
 #[unsafe(no_mangle)]
+#[tactic(auto, unfolding(abi_station::specs::StationAnswers::open_call))]
 pub extern "C" fn grain_open(state: &mut [i32; STATION_PLACES], row: usize) -> GrainAnswer
     ensures { record { answer = result; places = state.new } ≡ open_call row }
 {
-    abi_station::opened(station::open(state, row))
+    GrainAnswer::from(station::open(state, row).map_err(u32::from))
 }
 
 #[unsafe(no_mangle)]
+#[tactic(auto, unfolding(abi_station::specs::StationAnswers::sheet_call))]
 pub extern "C" fn grain_sheet(
     state: &mut [i32; STATION_PLACES],
     day: u32,
@@ -30,17 +32,19 @@ pub extern "C" fn grain_sheet(
 ) -> GrainOutcome
     ensures { record { answer = result; places = state.new } ≡ sheet_call state.old day line numbers.now }
 {
-    abi_station::judged(station::sheet(state, day, line, numbers))
+    GrainOutcome::from(station::sheet(state, day, line, numbers))
 }
 
 #[unsafe(no_mangle)]
+#[tactic(auto, unfolding(abi_station::specs::StationAnswers::repair_call))]
 pub extern "C" fn grain_repair(state: &mut [i32; STATION_PLACES], day: u32) -> GrainAnswer
     ensures { record { answer = result; places = state.new } ≡ repair_call state.old day }
 {
-    abi_station::repaired(station::repair(state, day))
+    GrainAnswer::from(station::repair(state, day).map_err(u32::from))
 }
 
 #[unsafe(no_mangle)]
+#[tactic(auto, unfolding(abi_station::specs::StationAnswers::market_call))]
 pub extern "C" fn grain_market(
     state: &mut [i32; STATION_PLACES],
     day: u32,
@@ -58,5 +62,5 @@ pub extern "C" fn grain_market(
     let scan = abi_station::scan_of(scan_kind, first, second, third);
     let wanted = abi_station::asked_of(asked);
     let at = abi_station::basis_for(basis_kind, basis);
-    abi_station::tested(market::market(state, day, line, scan, wanted, at))
+    GrainCertificate::from(market::market(state, day, line, scan, wanted, at))
 }

@@ -3,7 +3,7 @@
 #![tactic(auto)]
 
 ghost use Rattle.std.specs.Prelude.{◌≡◌};
-ghost use Rattle.abi_answers.specs.Given.{accepted as accepted_answer, refused as refused_answer};
+ghost use Rattle.abi_answers.specs.Given.{given};
 
 // accepted is 1 or 0; number is the refusal's, 0 where accepted.
 #[repr(C)]
@@ -13,20 +13,20 @@ pub struct GrainAnswer {
     pub number: u32,
 }
 
-pub fn accepted() -> GrainAnswer
-    ensures { result ≡ accepted_answer }
-{
-    GrainAnswer {
-        accepted: 1,
-        number: 0,
-    }
-}
+// Of a call that is refused by a number.
+impl From<Result<(), u32>> for GrainAnswer {
+    ghost from_gives = { λ answer r. r ≡ given answer };
 
-pub fn refused(number: u32) -> GrainAnswer
-    ensures { result ≡ refused_answer number }
-{
-    GrainAnswer {
-        accepted: 0,
-        number,
+    fn from(answer: Result<(), u32>) -> GrainAnswer {
+        match answer {
+            Ok(()) => GrainAnswer {
+                accepted: 1,
+                number: 0,
+            },
+            Err(number) => GrainAnswer {
+                accepted: 0,
+                number,
+            },
+        }
     }
 }

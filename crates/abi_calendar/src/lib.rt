@@ -1,11 +1,12 @@
-// What the exported calendar functions hand back: small structs of 32-bit numbers.
+// What the exported calendar functions hand back. C has no `Result`: these are small structs of 32-bit numbers, all values 0 where refused.
+// One `match` each: a helper for accepted and number alone would split the two cases of every struct, and is no plainer.
 
 #![tactic(auto)]
 
 ghost use Rattle.std.specs.Prelude.{◌≡◌};
 ghost use Rattle.abi_calendar.specs.CalendarAnswers.{day_given, date_given, weekday_given};
 
-use calendar_rules::{DateAnswer, DayAnswer, WeekdayAnswer};
+use calendar_rules::{Date, Refusal, Weekday};
 
 // accepted is 1 or 0, number the refusal's; then the day.
 #[repr(C)]
@@ -36,57 +37,63 @@ pub struct GrainWeekday {
     pub weekday: u32,
 }
 
-pub fn day_given(answer: DayAnswer) -> GrainDay
-    ensures { result ≡ day_given answer }
-{
-    match answer {
-        DayAnswer::Found(day) => GrainDay {
-            accepted: 1,
-            number: 0,
-            day,
-        },
-        DayAnswer::Refused(r) => GrainDay {
-            accepted: 0,
-            number: calendar_numbers::number_of(r),
-            day: 0,
-        },
+impl From<Result<u32, Refusal>> for GrainDay {
+    ghost from_gives = { λ answer given. given ≡ day_given answer };
+
+    fn from(answer: Result<u32, Refusal>) -> GrainDay {
+        match answer {
+            Ok(day) => GrainDay {
+                accepted: 1,
+                number: 0,
+                day,
+            },
+            Err(refusal) => GrainDay {
+                accepted: 0,
+                number: refusal.into(),
+                day: 0,
+            },
+        }
     }
 }
 
-pub fn date_given(answer: DateAnswer) -> GrainDate
-    ensures { result ≡ date_given answer }
-{
-    match answer {
-        DateAnswer::Found(d) => GrainDate {
-            accepted: 1,
-            number: 0,
-            year: d.year,
-            month: d.month,
-            day: d.day,
-        },
-        DateAnswer::Refused(r) => GrainDate {
-            accepted: 0,
-            number: calendar_numbers::number_of(r),
-            year: 0,
-            month: 0,
-            day: 0,
-        },
+impl From<Result<Date, Refusal>> for GrainDate {
+    ghost from_gives = { λ answer given. given ≡ date_given answer };
+
+    fn from(answer: Result<Date, Refusal>) -> GrainDate {
+        match answer {
+            Ok(date) => GrainDate {
+                accepted: 1,
+                number: 0,
+                year: date.year,
+                month: date.month,
+                day: date.day,
+            },
+            Err(refusal) => GrainDate {
+                accepted: 0,
+                number: refusal.into(),
+                year: 0,
+                month: 0,
+                day: 0,
+            },
+        }
     }
 }
 
-pub fn weekday_given(answer: WeekdayAnswer) -> GrainWeekday
-    ensures { result ≡ weekday_given answer }
-{
-    match answer {
-        WeekdayAnswer::Found(w) => GrainWeekday {
-            accepted: 1,
-            number: 0,
-            weekday: calendar_numbers::weekday_number(w),
-        },
-        WeekdayAnswer::Refused(r) => GrainWeekday {
-            accepted: 0,
-            number: calendar_numbers::number_of(r),
-            weekday: 0,
-        },
+impl From<Result<Weekday, Refusal>> for GrainWeekday {
+    ghost from_gives = { λ answer given. given ≡ weekday_given answer };
+
+    fn from(answer: Result<Weekday, Refusal>) -> GrainWeekday {
+        match answer {
+            Ok(weekday) => GrainWeekday {
+                accepted: 1,
+                number: 0,
+                weekday: weekday.into(),
+            },
+            Err(refusal) => GrainWeekday {
+                accepted: 0,
+                number: refusal.into(),
+                weekday: 0,
+            },
+        }
     }
 }

@@ -5,16 +5,17 @@ use Prim.Native.Nat.{ℕ, ◌≤◌}
 use native.Mathlib.Omega.{arith}
 use lib.IntN.{ℤ}
 use lib.ListN.{length}
+use Rattle.std.specs.Prelude.{Result, Ok, Err}
 use Rattle.chart_rules.specs.Places.{chart_at}
 use Rattle.chart_rules.specs.Lines.{line_of}
 use Rattle.chart_rules.specs.Calls.{result_of, bytes_of, chart_set_of}
 use Rattle.chart_rules.specs.InPlace.{chart_set_in}
-use Rattle.chart_rules.specs.declared.ChartAnswer.{ChartAnswer}
-use Rattle.chart_rules.specs.declared.ChartAnswer.TheVariants.{Charted}
-use Rattle.chart_rules.proofs.Charted.{line_fits, charted_length}
+use Rattle.chart_rules.specs.declared.Refusal.{Refusal}
+use Rattle.chart_rules.specs.declared.Charted.{Charted}
+use Rattle.chart_rules.proofs.Results.{charted_short}
 use Rattle.chart_rules.specs.Output.{answer_of, chart_text_of}
-use Rattle.chart_rules.specs.declared.TextAnswer.{TextAnswer}
-use Rattle.chart_rules.specs.declared.TextAnswer.TheVariants.{Written}
+use Rattle.std.specs.Prelude.{Result, Ok, Err}
+use Rattle.chart_rules.specs.declared.RefusedText.{RefusedText}
 use Rattle.chart_rules.proofs.GoodTexts.{program_fits}
 use Rattle.abi_chart.specs.ChartAnswers.{line_length, text_length}
 
@@ -22,16 +23,14 @@ pub line_length_lem : (words : List ℤ) (week : ℕ) (numbers : List ℤ) (buff
 unfolding chart_set_in chart_set_of bytes_of
 line_length_lem words week numbers buffer = go (result_of (chart_at words) week numbers (length buffer)).answer refl
   where
-    go : (a : ChartAnswer) → (result_of (chart_at words) week numbers (length buffer)).answer ≡ a → line_length a ≤ 40
-    go (Charted v k) e =
-        let forty : length (line_of v) ≤ 40 = subst (λ (a : ChartAnswer). length (bytes_of a) ≤ 40) e (line_fits.forty (chart_at words) week numbers (length buffer)) in
-        omega (arith, charted_length (chart_at words) week numbers (length buffer) v k e)
-    go (ChartAnswer.Refused r) e = omega arith
+    go : (a : Result Charted Refusal) → (result_of (chart_at words) week numbers (length buffer)).answer ≡ a → line_length a ≤ 40
+    go (Ok charted) e = charted_short (chart_at words) week numbers (length buffer) charted e
+    go (Err r) e = omega arith
 
 pub text_length_lem : (text buffer : List ℕ) → text_length (chart_text_of text buffer).answer ≤ 400000
 unfolding chart_text_of
 text_length_lem text buffer = go (answer_of text (length buffer)) refl
   where
-    go : (a : TextAnswer) → answer_of text (length buffer) ≡ a → text_length a ≤ 400000
-    go (Written n) e = program_fits.fits text (length buffer) n e
-    go (TextAnswer.Refused r line) e = omega arith
+    go : (a : Result ℕ RefusedText) → answer_of text (length buffer) ≡ a → text_length a ≤ 400000
+    go (Ok n) e = program_fits.fits text (length buffer) n e
+    go (Err r) e = omega arith

@@ -1,24 +1,21 @@
 -- What the exported chart functions hand back and leave: the struct that is given, every place and every byte; all values are 0 where refused.
-use Rattle.std.specs.Prelude.{ℕ, Bool, cond, List, ℤ, pos}
+use Rattle.std.specs.Prelude.{ℕ, Bool, cond, List, ℤ, pos, Result, Ok, Err}
 use Rattle.abi_answers.specs.Given.{accepted, refused}
 use Rattle.abi_answers.specs.declared.GrainAnswer.{GrainAnswer}
 use Rattle.chart_rules.specs.Refusals.{number_of}
 use Rattle.chart_rules.specs.InPlace.{open_in, chart_set_in}
-use Rattle.chart_rules.specs.declared.OpenAnswer.{OpenAnswer}
-use Rattle.chart_rules.specs.declared.OpenAnswer.TheVariants.{Opened}
-use Rattle.chart_rules.specs.declared.ChartAnswer.{ChartAnswer}
-use Rattle.chart_rules.specs.declared.ChartAnswer.TheVariants.{Charted}
+use Rattle.chart_rules.specs.declared.Refusal.{Refusal}
+use Rattle.chart_rules.specs.declared.Charted.{Charted}
 use Rattle.chart_rules.specs.Judging.{text_number}
 use Rattle.chart_rules.specs.Output.{chart_text_of}
-use Rattle.chart_rules.specs.declared.TextAnswer.{TextAnswer}
-use Rattle.chart_rules.specs.declared.TextAnswer.TheVariants.{Written}
+use Rattle.chart_rules.specs.declared.RefusedText.{RefusedText}
 use Rattle.abi_chart.specs.declared.GrainCharted.{GrainCharted}
 use Rattle.abi_chart.specs.declared.GrainWritten.{GrainWritten}
 
 -- ---- opening
-abbrev pub open_given : OpenAnswer → GrainAnswer
-open_given Opened = accepted
-open_given (OpenAnswer.Refused r) = refused (number_of r)
+abbrev pub open_given : Result (Unit {0}) Refusal → GrainAnswer
+open_given (Ok done) = accepted
+open_given (Err r) = refused (number_of r)
 
 pub record OpenLeft : Type 0 where
   pub given : GrainAnswer
@@ -38,8 +35,9 @@ set_refused number =
     record { accepted = 0; number = number; week = 0; count = 0; sum = pos 0; range = 0; al = 0; tl = 0; run = 0; ral = 0; rtl = 0; length = 0 }
 
 -- the output line's nine fields and its length
-abbrev pub set_given : ChartAnswer → GrainCharted
-set_given (Charted v length) =
+abbrev pub set_given : Result Charted Refusal → GrainCharted
+set_given (Ok charted) =
+    let v = charted.values in
     record {
       accepted = 1;
       number = 0;
@@ -52,9 +50,9 @@ set_given (Charted v length) =
       run = flag_of v.run;
       ral = flag_of v.ral;
       rtl = flag_of v.rtl;
-      length = length;
+      length = charted.length;
     }
-set_given (ChartAnswer.Refused r) = set_refused (number_of r)
+set_given (Err r) = set_refused (number_of r)
 
 pub record SetLeft : Type 0 where
   pub given : GrainCharted
@@ -67,9 +65,9 @@ chart_set_call words week numbers line =
     record { given = set_given r.answer; places = r.places; line = r.buffer }
 
 -- ---- a whole text: the length of its output; or the refusal and its text line
-abbrev pub text_given : TextAnswer → GrainWritten
-text_given (Written n) = record { accepted = 1; number = 0; line = 0; length = n }
-text_given (TextAnswer.Refused r line) = record { accepted = 0; number = text_number r; line = line; length = 0 }
+abbrev pub text_given : Result ℕ RefusedText → GrainWritten
+text_given (Ok n) = record { accepted = 1; number = 0; line = 0; length = n }
+text_given (Err r) = record { accepted = 0; number = text_number r.refusal; line = r.line; length = 0 }
 
 pub record TextLeft : Type 0 where
   pub given : GrainWritten
@@ -81,10 +79,10 @@ chart_text_call text out =
     record { given = text_given r.answer; out = r.buffer }
 
 -- ---- the lengths that an answer carries, for the code that hands them on in 32 bits
-abbrev pub line_length : ChartAnswer → ℕ
-line_length (Charted v length) = length
-line_length (ChartAnswer.Refused r) = 0
+abbrev pub line_length : Result Charted Refusal → ℕ
+line_length (Ok charted) = charted.length
+line_length (Err r) = 0
 
-abbrev pub text_length : TextAnswer → ℕ
-text_length (Written n) = n
-text_length (TextAnswer.Refused r line) = 0
+abbrev pub text_length : Result ℕ RefusedText → ℕ
+text_length (Ok n) = n
+text_length (Err r) = 0

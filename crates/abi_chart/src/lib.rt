@@ -3,11 +3,9 @@
 #![tactic(auto)]
 
 ghost use Rattle.std.specs.Prelude.{◌≡◌, ◌≤◌};
-ghost use Rattle.chart_rules.specs.declared.ChartAnswer.TheVariants.{Charted};
-ghost use Rattle.abi_chart.specs.ChartAnswers.{open_given, flag_of, set_refused, set_given, text_given, line_length, text_length};
+ghost use Rattle.abi_chart.specs.ChartAnswers.{set_refused, set_given, text_given, line_length, text_length};
 
-use abi_answers::GrainAnswer;
-use chart_rules::{ChartAnswer, OpenAnswer, TextAnswer, Values};
+use chart_rules::{Charted, Refusal, RefusedText};
 
 // accepted is 1 or 0, number the refusal's; then what the set's output line says, the flags as 1 or 0, and its length in bytes.
 #[repr(C)]
@@ -37,44 +35,7 @@ pub struct GrainWritten {
     pub length: u32,
 }
 
-// ---- opening
-
-pub fn opened(answer: OpenAnswer) -> GrainAnswer
-    ensures { result ≡ open_given answer }
-{
-    match answer {
-        OpenAnswer::Opened => abi_answers::accepted(),
-        OpenAnswer::Refused(r) => abi_answers::refused(chart_refusals::number_of(r)),
-    }
-}
-
 // ---- one set
-
-// 1 or 0.
-fn flag(b: bool) -> u32
-    ensures { result ≡ flag_of b }
-{
-    if b { 1 } else { 0 }
-}
-
-fn accepted_set(v: Values, length: u32) -> GrainCharted
-    ensures { result ≡ set_given (Charted v length) }
-{
-    GrainCharted {
-        accepted: 1,
-        number: 0,
-        week: v.week,
-        count: v.count,
-        sum: v.sum,
-        range: v.range,
-        al: flag(v.al),
-        tl: flag(v.tl),
-        run: flag(v.run),
-        ral: flag(v.ral),
-        rtl: flag(v.rtl),
-        length,
-    }
-}
 
 fn refused_set(number: u32) -> GrainCharted
     ensures { result ≡ set_refused number }
@@ -95,33 +56,48 @@ fn refused_set(number: u32) -> GrainCharted
     }
 }
 
-pub fn charted(answer: ChartAnswer) -> GrainCharted
+// Not a From: the length fits by the bound that a line has.
+pub fn charted(answer: Result<Charted, Refusal>) -> GrainCharted
     requires { line_length answer ≤ 40 }
     ensures { result ≡ set_given answer }
 {
     match answer {
-        ChartAnswer::Charted(v, length) => accepted_set(v, length as u32),
-        ChartAnswer::Refused(r) => refused_set(chart_refusals::number_of(r)),
+        Ok(Charted { values: v, length }) => GrainCharted {
+            accepted: 1,
+            number: 0,
+            week: v.week,
+            count: v.count,
+            sum: v.sum,
+            range: v.range,
+            al: u32::from(v.al),
+            tl: u32::from(v.tl),
+            run: u32::from(v.run),
+            ral: u32::from(v.ral),
+            rtl: u32::from(v.rtl),
+            length: length as u32,
+        },
+        Err(refusal) => refused_set(u32::from(refusal)),
     }
 }
 
 // ---- a whole text
 
-pub fn written(answer: TextAnswer) -> GrainWritten
+// Not a From either, for the same reason.
+pub fn written(answer: Result<usize, RefusedText>) -> GrainWritten
     requires { text_length answer ≤ 400000 }
     ensures { result ≡ text_given answer }
 {
     match answer {
-        TextAnswer::Written(n) => GrainWritten {
+        Ok(n) => GrainWritten {
             accepted: 1,
             number: 0,
             line: 0,
             length: n as u32,
         },
-        TextAnswer::Refused(r, line) => GrainWritten {
+        Err(refused) => GrainWritten {
             accepted: 0,
-            number: text_ruling::number_of(r),
-            line,
+            number: refused.refusal.into(),
+            line: refused.line,
             length: 0,
         },
     }

@@ -1,7 +1,8 @@
 -- What is promised of the exported functions beside their contracts.
 use Rattle.std.specs.Prelude.{◌≡◌, ℕ, ℤ, length}
 use mathlib.Core.List.{List, Permᴰ}
-use Rattle.station_rules.specs.Sheets.{Sample, samples_of, numbers_of}
+use Rattle.station_rules.specs.Sheets.{samples_of, numbers_of}
+use Rattle.station_rules.specs.declared.Sample.{Sample}
 use Rattle.abi_station.specs.StationAnswers.{sheet_call}
 
 -- grain_sheet: the same samples in another order get the same answer and leave the same in every place, whatever stood there

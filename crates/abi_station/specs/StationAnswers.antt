@@ -1,28 +1,21 @@
 -- What the exported station functions are asked, hand back and leave: the kinds of scan, of what is asked and of basis by their numbers, the struct that is given and every
 -- place; all values are 0 where refused.
-use Rattle.std.specs.Prelude.{ℕ, zero, suc, List, ℤ, pos, negsuc, Float}
+use Rattle.std.specs.Prelude.{Result, Ok, Err, Some, None, Option, ℕ, zero, suc, List, ℤ, pos, negsuc, Float}
 use Rattle.abi_answers.specs.Given.{accepted, refused}
 use Rattle.abi_answers.specs.declared.GrainAnswer.{GrainAnswer}
-use Rattle.reading.specs.declared.answer.Reading.{Reading}
-use Rattle.reading.specs.declared.answer.Reading.TheVariants.{Hundredths}
 use Rattle.station_rules.specs.Refusals.{number_of}
 use Rattle.station_rules.specs.InPlace.{Left, open_in, sheet_in, repair_in, market_in}
 use Rattle.station_rules.specs.declared.Scan.{Scan}
 use Rattle.station_rules.specs.declared.WheatClass.{WheatClass}
 use Rattle.station_rules.specs.declared.Asked.{Asked}
 use Rattle.station_rules.specs.declared.Basis.{Basis}
-use Rattle.station_rules.specs.declared.Refusal.TheVariants.{BadFloat}
-use Rattle.station_rules.specs.declared.OpenAnswer.{OpenAnswer}
-use Rattle.station_rules.specs.declared.OpenAnswer.TheVariants.{Opened}
-use Rattle.station_rules.specs.declared.SheetAnswer.{SheetAnswer}
-use Rattle.station_rules.specs.declared.SheetAnswer.TheVariants.{Accepted}
-use Rattle.station_rules.specs.declared.RepairAnswer.{RepairAnswer}
-use Rattle.station_rules.specs.declared.RepairAnswer.TheVariants.{Repaired}
-use Rattle.station_rules.specs.declared.MarketAnswer.{MarketAnswer}
-use Rattle.station_rules.specs.declared.MarketAnswer.TheVariants.{Certified}
+use Rattle.station_refusals.specs.declared.Refusal.TheVariants.{BadFloat}
 use Rattle.abi_station.specs.declared.GrainValue.{GrainValue}
 use Rattle.abi_station.specs.declared.GrainOutcome.{GrainOutcome}
 use Rattle.abi_station.specs.declared.GrainCertificate.{GrainCertificate}
+use Rattle.station_rules.specs.declared.Outcome.{Outcome}
+use Rattle.station_rules.specs.declared.Certificate.{Certificate}
+use Rattle.station_refusals.specs.declared.Refusal.{Refusal}
 
 -- ---- what is asked
 
@@ -51,31 +44,31 @@ basis_for (suc (suc (suc (suc kind)))) b = Basis.Specified (negsuc 0)
 
 -- ---- a reading
 
-unfoldable pub reading_given : Reading → GrainValue
-reading_given (Hundredths n) = record { accepted = 1; number = 0; hundredths = n }
-reading_given Reading.Refused = record { accepted = 0; number = number_of BadFloat; hundredths = 0 }
+unfoldable pub reading_given : Option ℕ → GrainValue
+reading_given (Some n) = record { accepted = 1; number = 0; hundredths = n }
+reading_given None = record { accepted = 0; number = number_of BadFloat; hundredths = 0 }
 
 -- ---- an opening and a repair
 
-abbrev pub open_given : OpenAnswer → GrainAnswer
-open_given Opened = accepted
-open_given (OpenAnswer.Refused r) = refused (number_of r)
+abbrev pub open_given : Result Unit Refusal → GrainAnswer
+open_given (Ok tt) = accepted
+open_given (Err r) = refused (number_of r)
 
 unfoldable pub open_call : ℕ → Left GrainAnswer
 open_call row = record { answer = open_given (open_in row).answer; places = (open_in row).places }
 
-abbrev pub repair_given : RepairAnswer → GrainAnswer
-repair_given Repaired = accepted
-repair_given (RepairAnswer.Refused r) = refused (number_of r)
+abbrev pub repair_given : Result Unit Refusal → GrainAnswer
+repair_given (Ok tt) = accepted
+repair_given (Err r) = refused (number_of r)
 
 unfoldable pub repair_call : List ℤ → ℕ → Left GrainAnswer
 repair_call words day = record { answer = repair_given (repair_in words day).answer; places = (repair_in words day).places }
 
 -- ---- a sheet: S, N, the phase after it, the intercept's change
 
-abbrev pub sheet_given : SheetAnswer → GrainOutcome
-sheet_given (Accepted o) = record { accepted = 1; number = 0; sum = o.sum; count = o.count; phase = o.phase; change = o.change }
-sheet_given (SheetAnswer.Refused r) = record { accepted = 0; number = number_of r; sum = pos 0; count = 0; phase = 0; change = pos 0 }
+abbrev pub sheet_given : Result Outcome Refusal → GrainOutcome
+sheet_given (Ok o) = record { accepted = 1; number = 0; sum = o.sum; count = o.count; phase = o.phase; change = o.change }
+sheet_given (Err r) = record { accepted = 0; number = number_of r; sum = pos 0; count = 0; phase = 0; change = pos 0 }
 
 unfoldable pub sheet_call : List ℤ → ℕ → ℕ → List ℤ → Left GrainOutcome
 sheet_call words day line numbers =
@@ -84,10 +77,10 @@ sheet_call words day line numbers =
 
 -- ---- a market test: the newest set's day, the intercept, B, the figure of h, the figure at B
 
-abbrev pub market_given : MarketAnswer → GrainCertificate
-market_given (Certified c) =
+abbrev pub market_given : Result Certificate Refusal → GrainCertificate
+market_given (Ok c) =
     record { accepted = 1; number = 0; day = c.day; intercept = c.intercept; basis = c.basis; figure = c.figure; converted = c.converted }
-market_given (MarketAnswer.Refused r) =
+market_given (Err r) =
     record { accepted = 0; number = number_of r; day = 0; intercept = pos 0; basis = pos 0; figure = 0; converted = 0 }
 
 unfoldable pub market_call : List ℤ → ℕ → ℕ → Scan → Asked → Basis → Left GrainCertificate

@@ -3,15 +3,10 @@
 #![tactic(auto)]
 
 ghost use Rattle.std.specs.Prelude.{◌≡◌};
-ghost use Rattle.station_rules.specs.declared.SheetAnswer.TheVariants.{Accepted};
-ghost use Rattle.station_rules.specs.declared.MarketAnswer.TheVariants.{Certified};
-ghost use Rattle.abi_station.specs.StationAnswers.{scan_of, asked_of, basis_for, reading_given, open_given, repair_given, sheet_given, market_given};
+ghost use Rattle.abi_station.specs.StationAnswers.{scan_of, asked_of, basis_for, reading_given, sheet_given, market_given};
 
-use abi_answers::GrainAnswer;
-use reading::Reading;
 use station_rules::{
-    Asked, Basis, Certificate, CornSet, MarketAnswer, OpenAnswer, Outcome, Refusal, RepairAnswer,
-    Scan, SheetAnswer, WheatClass, WheatSet,
+    Asked, Basis, Certificate, CornSet, Outcome, Refusal, Scan, WheatClass, WheatSet,
 };
 
 // accepted is 1 or 0, number the refusal's; then the hundredths.
@@ -50,21 +45,21 @@ pub struct GrainCertificate {
 
 // ---- asked
 
-// The kinds of scan; any other is a fault.
+// The kinds of scan as C sends them; any other is a fault.
 const WHEAT_SCAN: u32 = 0;
 
 const CORN_SCAN: u32 = 1;
 
 const WHEAT_GLUTEN_SCAN: u32 = 3;
 
-// What may be asked for; any other number is gluten of another class.
+// What may be asked for, as C sends it; any other number is gluten of another class.
 const LINE_FIGURE: u32 = 0;
 
 const GLUTEN_HARD_RED_WINTER: u32 = 1;
 
 const GLUTEN_HARD_RED_SPRING: u32 = 2;
 
-// The kinds of basis.
+// The kinds of basis, as C sends them.
 const STANDARD_BASIS: u32 = 0;
 
 const DRY_BASIS: u32 = 1;
@@ -124,98 +119,77 @@ pub fn basis_for(kind: u32, b: i32) -> Basis
 
 // ---- handed back
 
-#[tactic(auto, unfolding(crate::specs::StationAnswers::reading_given))]
-pub fn read(r: Reading) -> GrainValue
-    ensures { result ≡ reading_given r }
-{
-    match r {
-        Reading::Hundredths(n) => GrainValue {
-            accepted: 1,
-            number: 0,
-            hundredths: n,
-        },
-        Reading::Refused => GrainValue {
-            accepted: 0,
-            number: station_refusals::number(Refusal::BadFloat),
-            hundredths: 0,
-        },
+// Of a reading: number 9 refuses a float that has none.
+impl From<Option<u32>> for GrainValue {
+    ghost from_gives = { λ reading r. r ≡ reading_given reading };
+
+    #[tactic(auto, unfolding(crate::specs::StationAnswers::reading_given))]
+    fn from(reading: Option<u32>) -> GrainValue {
+        match reading {
+            Some(hundredths) => GrainValue {
+                accepted: 1,
+                number: 0,
+                hundredths,
+            },
+            None => GrainValue {
+                accepted: 0,
+                number: u32::from(Refusal::BadFloat),
+                hundredths: 0,
+            },
+        }
     }
 }
 
-pub fn opened(a: OpenAnswer) -> GrainAnswer
-    ensures { result ≡ open_given a }
-{
-    match a {
-        OpenAnswer::Opened => abi_answers::accepted(),
-        OpenAnswer::Refused(r) => abi_answers::refused(station_refusals::number(r)),
+// Of a sheet.
+impl From<Result<Outcome, Refusal>> for GrainOutcome {
+    ghost from_gives = { λ answer r. r ≡ sheet_given answer };
+
+    fn from(answer: Result<Outcome, Refusal>) -> GrainOutcome {
+        match answer {
+            Ok(o) => GrainOutcome {
+                accepted: 1,
+                number: 0,
+                sum: o.sum,
+                count: o.count,
+                phase: o.phase,
+                change: o.change,
+            },
+            Err(r) => GrainOutcome {
+                accepted: 0,
+                number: u32::from(r),
+                sum: 0,
+                count: 0,
+                phase: 0,
+                change: 0,
+            },
+        }
     }
 }
 
-pub fn repaired(a: RepairAnswer) -> GrainAnswer
-    ensures { result ≡ repair_given a }
-{
-    match a {
-        RepairAnswer::Repaired => abi_answers::accepted(),
-        RepairAnswer::Refused(r) => abi_answers::refused(station_refusals::number(r)),
-    }
-}
+// Of a market test.
+impl From<Result<Certificate, Refusal>> for GrainCertificate {
+    ghost from_gives = { λ answer r. r ≡ market_given answer };
 
-fn outcome(o: Outcome) -> GrainOutcome
-    ensures { result ≡ sheet_given (Accepted o) }
-{
-    GrainOutcome {
-        accepted: 1,
-        number: 0,
-        sum: o.sum,
-        count: o.count,
-        phase: o.phase,
-        change: o.change,
-    }
-}
-
-pub fn judged(a: SheetAnswer) -> GrainOutcome
-    ensures { result ≡ sheet_given a }
-{
-    match a {
-        SheetAnswer::Accepted(o) => outcome(o),
-        SheetAnswer::Refused(r) => GrainOutcome {
-            accepted: 0,
-            number: station_refusals::number(r),
-            sum: 0,
-            count: 0,
-            phase: 0,
-            change: 0,
-        },
-    }
-}
-
-fn certificate(c: Certificate) -> GrainCertificate
-    ensures { result ≡ market_given (Certified c) }
-{
-    GrainCertificate {
-        accepted: 1,
-        number: 0,
-        day: c.day,
-        intercept: c.intercept,
-        basis: c.basis,
-        figure: c.figure,
-        converted: c.converted,
-    }
-}
-
-pub fn tested(a: MarketAnswer) -> GrainCertificate
-    ensures { result ≡ market_given a }
-{
-    match a {
-        MarketAnswer::Certified(c) => certificate(c),
-        MarketAnswer::Refused(r) => GrainCertificate {
-            accepted: 0,
-            number: station_refusals::number(r),
-            day: 0,
-            intercept: 0,
-            basis: 0,
-            figure: 0,
-            converted: 0,
-        },
+    fn from(answer: Result<Certificate, Refusal>) -> GrainCertificate {
+        match answer {
+            Ok(c) => GrainCertificate {
+                accepted: 1,
+                number: 0,
+                day: c.day,
+                intercept: c.intercept,
+                basis: c.basis,
+                figure: c.figure,
+                converted: c.converted,
+            },
+            Err(r) => GrainCertificate {
+                accepted: 0,
+                number: u32::from(r),
+                day: 0,
+                intercept: 0,
+                basis: 0,
+                figure: 0,
+                converted: 0,
+            },
+        }
     }
 }

@@ -1,6 +1,6 @@
 -- The pass over the holidays: what holds before each, and what comes of its two ends.
 use mathlib.Core.Path.{◌≡◌, refl, sym, ap, ◌∙◌, subst}
-use mathlib.Core.Bool.{Bool, true, false, not, ◌&&◌, ◌||◌, cond}
+use mathlib.Core.Bool.{Bool, false, not, ◌&&◌, cond}
 use mathlib.Core.List.{List, [], ◌∷◌, ◌++◌}
 use Prim.Native.Nat.{ℕ, suc, ◌+◌, ◌-◌, ◌*◌, ◌%◌, ◌≤◌, ◌<◌}
 use native.Mathlib.Numerals.{add-one}
@@ -9,7 +9,11 @@ use lib.Dec.{eqb, leb, ltb}
 use lib.IntN.{ℤ, pos, negsuc}
 use lib.ListN.{length, get_or, take, drop, drop_of_length-le}
 use lib.Seq.{drop-cons, take-suc, take_all}
-use borrow.Author.Tests.{ltb-true, ltb-false, le-leb, lt-leb, eqb-true, eqb-false}
+use borrow.Author.Tests.{ltb-true, ltb-false, le-leb, eqb-true, eqb-false}
+use Rattle.std.specs.Prelude.{Ok, Err}
+use mir.Syntax.{w32}
+use mir.Val.{SFits, to_z, of_z}
+use mir.ValLaws.{to_z-of_z}
 use Rattle.whole.specs.Places.{natural}
 use Rattle.whole.proofs.ListLaws.{by_test}
 use Rattle.whole.proofs.Tests.{and2}
@@ -18,7 +22,6 @@ use Rattle.calendar_rules.specs.Calls.{bad_holidays, working_day}
 use Rattle.calendar_rules.specs.Counting.{good_from}
 use Rattle.calendar_rules.specs.Laws.{up_to, WorkingDaysAfter}
 use Rattle.calendar_rules.specs.declared.Refusal.TheVariants.{NoSuchDay, BadHolidays}
-use Rattle.calendar_rules.specs.declared.DayAnswer.TheVariants.{Found, Refused}
 use Rattle.calendar_rules.proofs.WorkingLaws.{more, finds, runs_out}
 use Rattle.calendar_rules.proofs.Holidays.{by_one_pass}
 use Rattle.calendar_rules.proofs.Working.{bad_list, good_list}
@@ -26,6 +29,14 @@ use Rattle.calendar_working.specs.Passes.{next_of, passed_of}
 use Rattle.calendar_working.proofs.WeekLaws.{none_listed}
 use Rattle.calendar_working.proofs.PassLaws.{Plain, plain_on, passes_over}
 use Rattle.calendar.specs.Ends.{within_last}
+
+-- the holiday that is read
+pub read : (z : ℤ) (h : ℕ) → h ≡ of_z w32 (to_z w32 (of_z w32 z)) → SFits w32 z → h ≡ natural z
+read z h e f = e ∙ ap (of_z w32) (to_z-of_z w32 z f) ∙ bits z f
+  where
+    bits : (z : ℤ) → SFits w32 z → of_z w32 z ≡ natural z
+    bits (pos n) f = refl
+    bits (negsuc n) f = omega (arith, f.sfits)
 
 module _ (hs : List ℤ) (day count : ℕ) where
   -- i holidays are passed: they are good, the next may be no earlier than `least`, and by them this day is found
@@ -38,8 +49,8 @@ module _ (hs : List ℤ) (day count : ℕ) where
     pub plain : Plain (take i hs) least
     pub after : 0 < count → WorkingDaysAfter (take i hs) day count found
 
-  pub passing_start : (found : ℕ) → (0 < count → WorkingDaysAfter [] day count found) → found ≤ 7000000000 → Passing 0 found 0
-  passing_start found a l =
+  pub passing_start : {found : ℕ} → (0 < count → WorkingDaysAfter [] day count found) → found ≤ 7000000000 → Passing 0 found 0
+  passing_start a l =
       record { within = omega arith; few = omega arith; last = omega arith; small = omega arith; good = refl; plain = λ x h. none_listed x; after = a }
 
   -- ---- the next holiday
@@ -57,7 +68,7 @@ module _ (hs : List ℤ) (day count : ℕ) where
   unfolding passed_of
   passed_near h d = by_test (ltb day h && leb h d && monday_to_friday h) (λ (t : Bool). cond t (next_of d) d ≤ d + 3) (λ e. next_of_near d) (λ e. omega arith)
 
-  module _ (i found least h : ℕ) (g : Passing i found least) (inside : i < length hs) (read : h ≡ natural (get_or hs i (pos 0))) where
+  module _ {i found least h : ℕ} (g : Passing i found least) (inside : i < length hs) (read : h ≡ natural (get_or hs i (pos 0))) where
     abbrev rest : List ℤ
     rest = drop (suc i) hs
 
@@ -83,14 +94,8 @@ module _ (hs : List ℤ) (day count : ℕ) where
         listed = ap (λ (n : ℕ). take n hs) (add-one i) ∙ take-suc hs i (pos 0) inside ∙ ap (λ (x : ℤ). take i hs ++ (x ∷ [])) (is_pos (get_or hs i (pos 0)) h read high)
 
     -- a bad one ends the pass
-    pub passing_stop : day ≤ 99999 → ltb h least || ltb 99999 h ≡ true → working_day day count hs ≡ Refused BadHolidays
-    passing_stop l e = bad_list day count hs l (by_one_pass hs ∙ ap not (left_is ∙ ap (λ (t : Bool). t && good_from (suc h) rest) bad))
-      where
-        bad : leb least h && leb h 99999 ≡ false
-        bad =
-            by_test (ltb h least) (λ (t : Bool). t || ltb 99999 h ≡ true → leb least h && leb h 99999 ≡ false)
-            (λ f o. ap (λ (t : Bool). t && leb h 99999) (lt-leb least h (ltb-true h least f)))
-            (λ f o. and2 (le-leb least h (ltb-false h least f)) (lt-leb h 99999 (ltb-true 99999 h o))) e
+    pub passing_stop : day ≤ 99999 → leb least h && leb h 99999 ≡ false → working_day day count hs ≡ Err BadHolidays
+    passing_stop l bad = bad_list day count hs l (by_one_pass hs ∙ ap not (left_is ∙ ap (λ (t : Bool). t && good_from (suc h) rest) bad))
 
   -- ---- all are passed
 
@@ -98,11 +103,11 @@ module _ (hs : List ℤ) (day count : ℕ) where
   last_is : (found : ℕ) → day ≤ 99999 → (0 < count → WorkingDaysAfter hs day count found) → within_last day count found ≡ counted hs (99999 - day) day count
   unfolding within_last
   last_is found l a =
-      by_test (eqb count 0) (λ (t : Bool). cond t (Found day) (cond (ltb 99999 found) (Refused NoSuchDay) (Found found)) ≡ counted hs (99999 - day) day count)
+      by_test (eqb count 0) (λ (t : Bool). cond t (Ok day) (cond (ltb 99999 found) (Err NoSuchDay) (Ok found)) ≡ counted hs (99999 - day) day count)
       (λ e. sym (finds hs (99999 - day) day count day (itself (eqb-true count 0 e)) (omega arith)))
       (λ e.
       let w = a (omega (arith, eqb-false count 0 e)) in
-      by_test (ltb 99999 found) (λ (t : Bool). cond t (Refused NoSuchDay) (Found found) ≡ counted hs (99999 - day) day count)
+      by_test (ltb 99999 found) (λ (t : Bool). cond t (Err NoSuchDay) (Ok found) ≡ counted hs (99999 - day) day count)
       (λ f. sym (runs_out hs (99999 - day) day count (too_late w (eqb-false count 0 e) (ltb-true 99999 found f))))
       (λ f. sym (finds hs (99999 - day) day count found w (omega (arith, ltb-false 99999 found f)))))
     where
@@ -114,9 +119,9 @@ module _ (hs : List ℤ) (day count : ℕ) where
           let e : day + (99999 - day) ≡ 99999 = omega arith in
           omega (arith, w.counts, more (is_working hs) 99999 found b (w.some (omega (arith, n))), ap (up_to (is_working hs)) e)
 
-  pub passing_done : (i found least : ℕ) → Passing i found least → length hs ≤ i → day ≤ 99999 → within_last day count found ≡ working_day day count hs
+  pub passing_done : {i found least : ℕ} → Passing i found least → length hs ≤ i → day ≤ 99999 → within_last day count found ≡ working_day day count hs
   unfolding good_from
-  passing_done i found least g e l =
+  passing_done {i} {found} {least} g e l =
       let all : take i hs ≡ hs = take_all i hs e in
       let good : bad_holidays hs ≡ false = by_one_pass hs ∙ ap not (sym g.good ∙ ap (good_from least) (drop_of_length-le hs e)) in
       last_is found l (λ some. subst (λ (hs' : List ℤ). WorkingDaysAfter hs' day count found) all (g.after some)) ∙ sym (good_list day count hs l good)

@@ -3,54 +3,57 @@
 
 #![tactic(auto)]
 
-ghost use Rattle.std.specs.Prelude.{◌≡◌, ◌≤◌};
+ghost use Rattle.std.specs.Prelude.{◌≡◌, ◌≤◌, ◌<◌, MatchResult};
+ghost use Rattle.calendar_rules.specs.declared.Refusal.TheVariants.{NoSuchDay};
 ghost use Rattle.calendar_rules.specs.Weekdays.{weekday_on};
 ghost use Rattle.calendar_rules.specs.Calls.{day_of, date_of, weekday_of, working_day, results_due};
 ghost use Rattle.calendar_rules.specs.Counting.{is_date};
 ghost use Rattle.calendar.specs.Ends.{within_last};
 
 use calendar_rules::{
-    DUE_DAYS, Date, DateAnswer, DayAnswer, FIRST_YEAR, LAST_DAY, LAST_YEAR, MONTHS, Refusal,
-    SINCE_MONDAY, WEEK, Weekday, WeekdayAnswer,
+    DUE_DAYS, Date, FIRST_YEAR, LAST_DAY, LAST_YEAR, MONTHS, Refusal, SINCE_MONDAY, WEEK, Weekday,
 };
-use whole::{Int, flags};
 
 // ---- dates and days
 
+// The day of this number, if there is one.
+fn existing_day(day: u32) -> Result<u32, Refusal>
+    ensures { MatchResult result (λ d. (d ≡ day) × (d ≤ 99999)) (λ r. (r ≡ NoSuchDay) × (99999 < day)) }
+{
+    if LAST_DAY < day {
+        return Err(Refusal::NoSuchDay);
+    }
+    Ok(day)
+}
+
 // A date of the years 2000 to 2273.
+#[tactic(auto, unfolding(calendar_rules::specs::Counting::is_date))]
 fn is_date(d: Date) -> bool
     ensures { result ≡ is_date d }
 {
-    let year = flags::both(FIRST_YEAR <= d.year, d.year <= LAST_YEAR);
-    let month = flags::both(1 <= d.month, d.month <= MONTHS);
-    let day = flags::both(
-        1 <= d.day,
-        d.day <= calendar_dates::month_length(d.year, d.month),
-    );
-    flags::both(flags::both(year, month), day)
+    (FIRST_YEAR..=LAST_YEAR).contains(&d.year)
+        && (1..=MONTHS).contains(&d.month)
+        && (1..=calendar_dates::month_length(d.year, d.month)).contains(&d.day)
 }
 
 // The day of a date.
-pub fn day_from_date(date: Date) -> DayAnswer
+#[tactic(auto, using(calendar_rules::proofs::DateTests::is_yes, calendar_rules::proofs::DateTests::is_no, calendar_rules::proofs::Exact::no_day, calendar_rules::proofs::Exact::a_day, calendar_rules::proofs::Exact::in_by_number, calendar_rules::proofs::Exact::number_in))]
+pub fn day_from_date(date: Date) -> Result<u32, Refusal>
     ensures { result ≡ day_of date }
 {
-    if is_date(date) {
-        let day = calendar_dates::day_number(date);
-        if day <= LAST_DAY {
-            return DayAnswer::Found(day);
-        }
+    if !is_date(date) {
+        return Err(Refusal::NoSuchDay);
     }
-    DayAnswer::Refused(Refusal::NoSuchDay)
+    existing_day(calendar_dates::day_number(date))
 }
 
 // The date of a day.
-pub fn date_from_day(day: u32) -> DateAnswer
+#[tactic(auto, using(calendar_rules::proofs::Exact::a_date, calendar_rules::proofs::Exact::no_date))]
+pub fn date_from_day(day: u32) -> Result<Date, Refusal>
     ensures { result ≡ date_of day }
 {
-    if day <= LAST_DAY {
-        return DateAnswer::Found(calendar_dates::date_on(day));
-    }
-    DateAnswer::Refused(Refusal::NoSuchDay)
+    let day = existing_day(day)?;
+    Ok(calendar_dates::date_on(day))
 }
 
 // ---- weekdays
@@ -60,8 +63,7 @@ fn weekday_on(day: u32) -> Weekday
     requires { day ≤ 99999 }
     ensures { result ≡ weekday_on day }
 {
-    let number = (day + SINCE_MONDAY) % WEEK;
-    match number {
+    match (day + SINCE_MONDAY) % WEEK {
         0 => Weekday::Monday,
         1 => Weekday::Tuesday,
         2 => Weekday::Wednesday,
@@ -73,55 +75,51 @@ fn weekday_on(day: u32) -> Weekday
 }
 
 // The weekday of a day.
-pub fn weekday(day: u32) -> WeekdayAnswer
+#[tactic(auto, using(calendar_rules::proofs::WeekdayLaws::a_weekday, calendar_rules::proofs::WeekdayLaws::no_weekday))]
+pub fn weekday(day: u32) -> Result<Weekday, Refusal>
     ensures { result ≡ weekday_of day }
 {
-    if day <= LAST_DAY {
-        return WeekdayAnswer::Found(weekday_on(day));
-    }
-    WeekdayAnswer::Refused(Refusal::NoSuchDay)
+    let day = existing_day(day)?;
+    Ok(weekday_on(day))
 }
 
 // ---- working days
 
 // The day found, unless it is past the last; a count of 0 gives the day itself.
-fn within_last(day: u32, count: u32, found: u64) -> DayAnswer
+#[tactic(auto, unfolding(crate::specs::Ends::within_last))]
+fn within_last(day: u32, count: u32, found: u64) -> Result<u32, Refusal>
     ensures { result ≡ within_last day count found }
 {
     if count == 0 {
-        return DayAnswer::Found(day);
+        return Ok(day);
     }
-    if (LAST_DAY as u64) < found {
-        return DayAnswer::Refused(Refusal::NoSuchDay);
+    if u64::from(LAST_DAY) < found {
+        return Err(Refusal::NoSuchDay);
     }
-    DayAnswer::Found(found as u32)
+    Ok(found as u32)
 }
 
 // The day that is so many working days after a day; the holidays are the days listed. Found first without holidays, then with one more of them at a time.
 #[tactic(auto, using(calendar_rules::proofs::Working::no_start))]
-pub fn working_day(day: u32, count: u32, holidays: &[i32]) -> DayAnswer
+pub fn working_day(day: u32, count: u32, holidays: &[i32]) -> Result<u32, Refusal>
     ensures { result ≡ working_day day count holidays.now }
 {
-    if LAST_DAY < day {
-        return DayAnswer::Refused(Refusal::NoSuchDay);
-    }
-    let mut found = calendar_working::without_holidays(day, count);
+    let start = existing_day(day)?;
+    let mut found = calendar_working::without_holidays(start, count);
     let mut least = 0;
-    let mut i = 0;
-    while i < holidays.len() {
-        let holiday = whole::natural(Int { z: holidays[i] });
-        if flags::either(holiday < least, LAST_DAY < holiday) {
-            return DayAnswer::Refused(Refusal::BadHolidays);
+    for holiday in holidays {
+        let holiday = holiday.cast_unsigned();
+        if !(least..=LAST_DAY).contains(&holiday) {
+            return Err(Refusal::BadHolidays);
         }
-        found = calendar_working::passed(day, holiday, found);
+        found = calendar_working::passed(start, holiday, found);
         least = holiday + 1;
-        i += 1;
     }
-    within_last(day, count, found)
+    within_last(start, count, found)
 }
 
 // The day by which monitoring results are due at the service point, from the day of retrieval.
-pub fn results_due(day: u32, holidays: &[i32]) -> DayAnswer
+pub fn results_due(day: u32, holidays: &[i32]) -> Result<u32, Refusal>
     ensures { result ≡ results_due day holidays.now }
 {
     working_day(day, DUE_DAYS, holidays)

@@ -4,7 +4,7 @@ use mathlib.Core.Bool.{Bool, true, false, cond}
 use Prim.Native.Nat.{ℕ, suc, ◌+◌, ◌-◌, ◌*◌, ◌/◌, ◌≤◌, ◌<◌}
 use native.Mathlib.Omega.{arith}
 use lib.Dec.{leb, ltb}
-use borrow.Author.Tests.{ltb-true, ltb-false, leb-false, lt-leb}
+use borrow.Author.Tests.{ltb-true, ltb-false, lt-leb}
 use Rattle.whole.proofs.ListLaws.{by_test}
 use Rattle.calendar_rules.specs.Counting.{lacking, month_start}
 use Rattle.calendar_dates.specs.Parts.{InMonth}
@@ -60,10 +60,6 @@ month_small leap m h = omega arith
 -- the numbers of the code are small
 pub lacks_little : (leap : Bool) (m : ℕ) → lacking leap m ≤ 2
 lacks_little leap m = by_test (leb m 2) (λ (t : Bool). cond t 0 (cond leap 1 2) ≤ 2) (λ e. omega arith) (λ e. small leap)
-
-pub lacks_fit : (leap : Bool) (m : ℕ) → 1 ≤ m → lacking leap m ≤ (367 * m - 362) / 12
-lacks_fit leap m h =
-    by_test (leb m 2) (λ (t : Bool). cond t 0 (cond leap 1 2) ≤ (367 * m - 362) / 12) (λ e. omega arith) (λ e. omega (arith, leb-false m 2 e, small leap))
 
 pub year_small : (leap : Bool) → month_start leap 13 ≤ 366
 year_small leap = omega (arith, (march_start leap).1, small leap, least leap)

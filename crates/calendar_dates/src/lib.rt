@@ -8,39 +8,31 @@ ghost use Rattle.calendar_rules.specs.Counting.{year_start, lacking, month_start
 ghost use Rattle.calendar_rules.specs.Laws.{Valid};
 ghost use Rattle.calendar_dates.specs.Parts.{InYear, InMonth};
 
-use calendar_rules::{Date, FIRST_YEAR, MONTHS};
-use whole::flags;
+use calendar_rules::{Date, FIRST_YEAR};
 
-// The months' lengths by their numbers, of a year that isn't a leap year and of one that is.
-const COMMON: [u32; 13] = [0, 31, 28, 31, 30, 31, 30, 31, 31, 30, 31, 30, 31];
-
-const LEAP: [u32; 13] = [0, 31, 29, 31, 30, 31, 30, 31, 31, 30, 31, 30, 31];
-
+#[tactic(auto, unfolding(calendar_rules::specs::Dates::leap_year))]
 pub fn leap_year(year: u32) -> bool
     ensures { result ≡ leap_year year }
 {
-    flags::both(
-        year % 4 == 0,
-        flags::either(flags::opposite(year % 100 == 0), year % 400 == 0),
-    )
+    year % 4 == 0 && (year % 100 != 0 || year % 400 == 0)
 }
 
 // The days of a month; 0 of a month that there isn't.
+#[tactic(auto, unfolding(calendar_rules::specs::Dates::month_length))]
 pub fn month_length(year: u32, month: u32) -> u32
     ensures { result ≡ month_length year month }
 {
-    if MONTHS < month {
-        return 0;
-    }
-    let at = month as usize;
-    if leap_year(year) {
-        LEAP[at]
-    } else {
-        COMMON[at]
+    match month {
+        1 | 3 | 5 | 7 | 8 | 10 | 12 => 31,
+        4 | 6 | 9 | 11 => 30,
+        2 if leap_year(year) => 29,
+        2 => 28,
+        _ => 0,
     }
 }
 
 // The days from 1 January 2000 to 1 January of a year.
+#[tactic(auto, unfolding(calendar_rules::specs::Counting::year_start))]
 fn year_start(year: u32) -> u32
     requires { (2000 ≤ year) × (year ≤ 2300) }
     ensures { result ≡ year_start year }
@@ -60,6 +52,7 @@ fn lacks(leap: bool, month: u32) -> u32
 }
 
 // The days from 1 January to the first of a month.
+#[tactic(auto, unfolding(calendar_rules::specs::Counting::month_start))]
 fn month_start(leap: bool, month: u32) -> u32
     requires { (1 ≤ month) × (month ≤ 12) }
     ensures { result ≡ month_start leap month }
@@ -68,6 +61,7 @@ fn month_start(leap: bool, month: u32) -> u32
 }
 
 // The day of a date.
+#[tactic(auto, unfolding(calendar_rules::specs::Counting::day_number), using(calendar_rules::proofs::Succession::small_day, crate::proofs::YearLaws::start_high, crate::proofs::MonthLaws::month_small))]
 pub fn day_number(d: Date) -> u32
     requires { Valid d × (d.year ≤ 2273) }
     ensures { result ≡ day_number d }
@@ -89,6 +83,7 @@ fn year_of(day: u32) -> u32
 }
 
 // The month in which the day stands that is so many days after 1 January.
+#[tactic(auto, using(crate::proofs::MonthLaws::march, crate::proofs::MonthLaws::lacks_little, crate::proofs::MonthLaws::year_small))]
 fn month_of(leap: bool, rest: u32) -> u32
     requires { rest < month_start leap 13 }
     ensures { InMonth leap rest result }
@@ -100,6 +95,7 @@ fn month_of(leap: bool, rest: u32) -> u32
 }
 
 // The date of a day.
+#[tactic(auto, using(crate::proofs::DateLaws::rest_within, crate::proofs::DateLaws::taken_apart))]
 pub fn date_on(day: u32) -> Date
     requires { day ≤ 99999 }
     ensures { result ≡ date_on day }

@@ -7,6 +7,7 @@ use native.Mathlib.Omega.{arith}
 use lib.Dec.{leb}
 use lib.IntN.{ℤ, pos}
 use borrow.Author.Tests.{leb-true, leb-false}
+use Rattle.std.specs.Prelude.{Result, Ok, Err}
 use Rattle.whole.proofs.ListLaws.{by_test}
 use Rattle.whole.proofs.Tests.{and_false}
 use Rattle.calendar_rules.specs.Dates.{leap_year, month_length}
@@ -16,9 +17,8 @@ use Rattle.calendar_rules.specs.Calls.{day_of, rising, bad_holidays, working_day
 use Rattle.calendar_rules.specs.Counting.{year_start, month_start, day_number, is_date}
 use Rattle.calendar_rules.specs.Cases.{finds, DateCase, dates, working, refusals, dues, last_holiday}
 use Rattle.calendar_rules.specs.declared.Date.{Date}
+use Rattle.calendar_rules.specs.declared.Refusal.{Refusal}
 use Rattle.calendar_rules.specs.declared.Refusal.TheVariants.{NoSuchDay}
-use Rattle.calendar_rules.specs.declared.DayAnswer.{DayAnswer}
-use Rattle.calendar_rules.specs.declared.DayAnswer.TheVariants.{Found, Refused}
 use Rattle.calendar_rules.proofs.DateTests.{is_yes, is_no}
 use Rattle.calendar_rules.proofs.Exact.{in_by_number, number_in, a_day, no_day}
 use Rattle.calendar_rules.proofs.WorkingLaws.{next_no, finds as found, found_is, runs_out}
@@ -26,14 +26,14 @@ use Rattle.calendar_rules.proofs.Working.{good_list}
 
 -- ---- dates
 
-abbrev by_arithmetic : Date → DayAnswer
-by_arithmetic d = cond (is_date d) (cond (leb (day_number d) 99999) (Found (day_number d)) (Refused NoSuchDay)) (Refused NoSuchDay)
+abbrev by_arithmetic : Date → Result ℕ Refusal
+by_arithmetic d = cond (is_date d) (cond (leb (day_number d) 99999) (Ok (day_number d)) (Err NoSuchDay)) (Err NoSuchDay)
 
 by_arithmetic_lem : (d : Date) → day_of d ≡ by_arithmetic d
 by_arithmetic_lem d =
-    by_test (is_date d) (λ (t : Bool). day_of d ≡ cond t (cond (leb (day_number d) 99999) (Found (day_number d)) (Refused NoSuchDay)) (Refused NoSuchDay))
+    by_test (is_date d) (λ (t : Bool). day_of d ≡ cond t (cond (leb (day_number d) 99999) (Ok (day_number d)) (Err NoSuchDay)) (Err NoSuchDay))
     (λ e.
-    by_test (leb (day_number d) 99999) (λ (t : Bool). day_of d ≡ cond t (Found (day_number d)) (Refused NoSuchDay))
+    by_test (leb (day_number d) 99999) (λ (t : Bool). day_of d ≡ cond t (Ok (day_number d)) (Err NoSuchDay))
     (λ f. a_day d (in_by_number d (is_yes d e).0 (leb-true (day_number d) 99999 f)))
     (λ f. no_day d (λ c. omega (arith, number_in d c, leb-false (day_number d) 99999 f))))
     (λ e. no_day d (is_no d e))
@@ -49,7 +49,7 @@ dates_hold = each dates ∙ refl
 -- ---- working days
 
 -- a day found within 30 days is the one found: the many days that are left then needn't be gone through
-within_month : (day count : ℕ) (hs : List ℤ) (d : ℕ) → day + 30 ≤ 99999 → bad_holidays hs ≡ false → counted hs 30 day count ≡ Found d → day_says (working_day day count hs) ≡ finds d
+within_month : (day count : ℕ) (hs : List ℤ) (d : ℕ) → day + 30 ≤ 99999 → bad_holidays hs ≡ false → counted hs 30 day count ≡ Ok d → day_says (working_day day count hs) ≡ finds d
 within_month day count hs d l good e =
     let near = found_is hs 30 day count d e in
     ap day_says (good_list day count hs (omega arith) good ∙ found hs (99999 - day) day count d near.1 (omega (arith, near.0)))

@@ -5,6 +5,7 @@ use Prim.Native.Nat.{ℕ, zero, suc, ◌+◌, ◌≤◌, ◌<◌}
 use native.Mathlib.Omega.{arith}
 use lib.Dec.{eqb, ltb}
 use borrow.Author.Tests.{eqb-true, eq-eqb, ltb-true, ltb-false, lt-ltb, le-ltb}
+use Rattle.std.specs.Prelude.{Result, Ok, Err}
 use Rattle.whole.proofs.ListLaws.{by_test}
 use Rattle.whole.proofs.Tests.{and_both}
 use Rattle.calendar_rules.specs.Dates.{date, leap_year, month_length, date_on}
@@ -12,11 +13,8 @@ use Rattle.calendar_rules.specs.Calls.{same_date, first_with, day_of, date_of, d
 use Rattle.calendar_rules.specs.Counting.{year_start, month_start, day_number}
 use Rattle.calendar_rules.specs.Laws.{Valid, written, InCalendar, CalendarExact}
 use Rattle.calendar_rules.specs.declared.Date.{Date}
+use Rattle.calendar_rules.specs.declared.Refusal.{Refusal}
 use Rattle.calendar_rules.specs.declared.Refusal.TheVariants.{NoSuchDay}
-use Rattle.calendar_rules.specs.declared.DayAnswer.{DayAnswer}
-use Rattle.calendar_rules.specs.declared.DayAnswer.TheVariants.{Found, Refused}
-use Rattle.calendar_rules.specs.declared.DateAnswer.{DateAnswer}
-use Rattle.calendar_rules.specs.declared.DateAnswer.TheVariants as D
 use Rattle.calendar_rules.proofs.Succession.{dated, later_larger, same_written, date_is}
 
 -- ---- the same date
@@ -40,21 +38,21 @@ one_day : (m n : ℕ) → date_on m ≡ date_on n → m ≡ n
 one_day m n e = sym (dated m).number ∙ ap day_number e ∙ (dated n).number
 
 module _ (d : Date) where
-  first_is : (left from day : ℕ) → date_on day ≡ d → from ≤ day → day < from + left → first_with d left from ≡ Found day
+  first_is : (left from day : ℕ) → date_on day ≡ d → from ≤ day → day < from + left → first_with d left from ≡ Ok day
   unfolding first_with
   first_is zero from day e h l = absurd (omega arith)
   first_is (suc left) from day e h l =
-      by_test (same_date (date_on from) d) (λ (t : Bool). cond t (Found from) (first_with d left (suc from)) ≡ Found day)
-      (λ t. ap Found (one_day from day (same_yes (date_on from) d t ∙ sym e)))
+      by_test (same_date (date_on from) d) (λ (t : Bool). cond t (Ok from) (first_with d left (suc from)) ≡ Ok day)
+      (λ t. ap Ok (one_day from day (same_yes (date_on from) d t ∙ sym e)))
       (λ t.
       let apart : (from ≡ day → ⊥) = λ s. true≢false (sym (same_own d) ∙ ap (λ (x : Date). same_date x d) (sym e ∙ ap date_on (sym s)) ∙ t) in
       first_is left (suc from) day e (omega (arith, apart)) (omega arith))
 
-  first_none : (left from : ℕ) → ((day : ℕ) → day < from + left → date_on day ≡ d → ⊥) → first_with d left from ≡ Refused NoSuchDay
+  first_none : (left from : ℕ) → ((day : ℕ) → day < from + left → date_on day ≡ d → ⊥) → first_with d left from ≡ Err NoSuchDay
   unfolding first_with
   first_none zero from n = refl
   first_none (suc left) from n =
-      by_test (same_date (date_on from) d) (λ (t : Bool). cond t (Found from) (first_with d left (suc from)) ≡ Refused NoSuchDay)
+      by_test (same_date (date_on from) d) (λ (t : Bool). cond t (Ok from) (first_with d left (suc from)) ≡ Err NoSuchDay)
       (λ t. absurd (n from (omega arith) (same_yes (date_on from) d t)))
       (λ t. first_none left (suc from) (λ (day : ℕ) (l : day < suc from + left). n day (omega arith)))
 
@@ -95,12 +93,12 @@ number_in d c =
     omega (arith, ap day_number (same_written d last_date c.valid last_valid same), last_number))
 
 -- such a date has its number for its day
-pub a_day : (d : Date) → InCalendar d → day_of d ≡ Found (day_number d)
+pub a_day : (d : Date) → InCalendar d → day_of d ≡ Ok (day_number d)
 unfolding day_of
 a_day d c = first_is d 100000 0 (day_number d) (date_is d c.valid) (omega arith) (omega (arith, number_in d c))
 
 -- and any other has none
-pub no_day : (d : Date) → (InCalendar d → ⊥) → day_of d ≡ Refused NoSuchDay
+pub no_day : (d : Date) → (InCalendar d → ⊥) → day_of d ≡ Err NoSuchDay
 unfolding day_of
 no_day d n =
     first_none d 100000 0
@@ -111,11 +109,11 @@ no_day d n =
 
 -- ---- the dates of days
 
-pub a_date : (day : ℕ) → day ≤ 99999 → date_of day ≡ D.Found (date_on day)
+pub a_date : (day : ℕ) → day ≤ 99999 → date_of day ≡ Ok (date_on day)
 unfolding date_of
 a_date day l = simp (le-ltb 99999 day l)
 
-pub no_date : (day : ℕ) → 99999 < day → date_of day ≡ D.Refused NoSuchDay
+pub no_date : (day : ℕ) → 99999 < day → date_of day ≡ Err NoSuchDay
 unfolding date_of
 no_date day l = simp (lt-ltb 99999 day l)
 
@@ -127,7 +125,7 @@ last_date_lem : date_on 99999 ≡ date 2273 10 15
 unfolding last_date
 last_date_lem = ap date_on (sym last_number) ∙ date_is last_date last_valid
 
-one_answer : {m n : ℕ} → Found m ≡ Found n → m ≡ n
+one_answer : {m n : ℕ} → ◌≡◌ {A = Result ℕ Refusal} (Ok m) (Ok n) → m ≡ n
 one_answer e = cc
 
 -- ---- the theorem
@@ -136,21 +134,21 @@ pub calendar_exact : CalendarExact
 calendar_exact =
     record {
       days = day_and_back;
-      dates = λ d c. (day_number d, a_day d c, number_in d c, a_date (day_number d) (number_in d c) ∙ ap D.Found (date_is d c.valid));
-      other_dates = λ d n. ap (λ (a : DayAnswer). (day_says a).number) (no_day d n);
-      other_days = λ day l. ap (λ (a : DateAnswer). (date_says a).number) (no_date day l);
+      dates = λ d c. (day_number d, a_day d c, number_in d c, a_date (day_number d) (number_in d c) ∙ ap Ok (date_is d c.valid));
+      other_dates = λ d n. ap (λ (a : Result ℕ Refusal). (day_says a).number) (no_day d n);
+      other_days = λ day l. ap (λ (a : Result Date Refusal). (date_says a).number) (no_date day l);
       rises = later;
-      first = a_date 0 (omega arith) ∙ ap D.Found first_date;
-      last = a_date 99999 (omega arith) ∙ ap D.Found last_date_lem;
+      first = a_date 0 (omega arith) ∙ ap Ok first_date;
+      last = a_date 99999 (omega arith) ∙ ap Ok last_date_lem;
     }
   where
-    day_and_back : (day : ℕ) → day ≤ 99999 → (d : Date) × (date_of day ≡ D.Found d) × InCalendar d × (day_of d ≡ Found day)
+    day_and_back : (day : ℕ) → day ≤ 99999 → (d : Date) × (date_of day ≡ Ok d) × InCalendar d × (day_of d ≡ Ok day)
     day_and_back day l =
         let s = dated day in
         let c = in_by_number (date_on day) s.valid (omega (arith, s.number)) in
-        (date_on day, a_date day l, c, a_day (date_on day) c ∙ ap Found s.number)
+        (date_on day, a_date day l, c, a_day (date_on day) c ∙ ap Ok s.number)
 
-    later : (d e : Date) → InCalendar d → InCalendar e → written d < written e → (m n : ℕ) → day_of d ≡ Found m → day_of e ≡ Found n → m < n
+    later : (d e : Date) → InCalendar d → InCalendar e → written d < written e → (m n : ℕ) → day_of d ≡ Ok m → day_of e ≡ Ok n → m < n
     later d e c b l m n f g =
         let x : m ≡ day_number d = one_answer (sym f ∙ a_day d c) in
         let y : n ≡ day_number e = one_answer (sym g ∙ a_day e b) in

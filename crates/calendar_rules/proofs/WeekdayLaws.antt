@@ -6,6 +6,7 @@ use native.Mathlib.Omega.{arith}
 use native.Mathlib.Numerals.{add-one}
 use lib.Dec.{leb, ltb, eqb}
 use borrow.Author.Tests.{ltb-true, ltb-false, le-leb, lt-leb, lt-ltb, le-ltb}
+use Rattle.std.specs.Prelude.{Result, Ok, Err}
 use Rattle.whole.proofs.ListLaws.{by_test}
 use Rattle.calendar_rules.specs.Weekdays.{weekday_number, next_weekday, weekday_on}
 use Rattle.calendar_rules.specs.Working.{monday_to_friday}
@@ -13,9 +14,8 @@ use Rattle.calendar_rules.specs.Calls.{weekday_of, weekday_says}
 use Rattle.calendar_rules.specs.Laws.{WeekdaysExact}
 use Rattle.calendar_rules.specs.declared.Weekday.{Weekday}
 use Rattle.calendar_rules.specs.declared.Weekday.TheVariants.{Monday, Tuesday, Wednesday, Thursday, Friday, Saturday, Sunday}
+use Rattle.calendar_rules.specs.declared.Refusal.{Refusal}
 use Rattle.calendar_rules.specs.declared.Refusal.TheVariants.{NoSuchDay}
-use Rattle.calendar_rules.specs.declared.WeekdayAnswer.{WeekdayAnswer}
-use Rattle.calendar_rules.specs.declared.WeekdayAnswer.TheVariants as W
 
 next_number : (w : Weekday) → weekday_number (next_weekday w) ≡ weekday_number w % 7 + 1
 next_number Monday = refl
@@ -61,11 +61,11 @@ by_remainder day w e = same_weekday w (weekday_on day) (e ∙ sym (number_on day
 
 -- ---- the call
 
-pub a_weekday : (day : ℕ) → day ≤ 99999 → weekday_of day ≡ W.Found (weekday_on day)
+pub a_weekday : (day : ℕ) → day ≤ 99999 → weekday_of day ≡ Ok (weekday_on day)
 unfolding weekday_of
 a_weekday day l = simp (le-ltb 99999 day l)
 
-pub no_weekday : (day : ℕ) → 99999 < day → weekday_of day ≡ W.Refused NoSuchDay
+pub no_weekday : (day : ℕ) → 99999 < day → weekday_of day ≡ Err NoSuchDay
 unfolding weekday_of
 no_weekday day l = simp (lt-ltb 99999 day l)
 
@@ -80,9 +80,9 @@ first_weekday = refl
 pub weekdays_exact : WeekdaysExact
 weekdays_exact =
     record {
-      moves = λ day l. (weekday_on day, a_weekday day (omega arith), a_weekday (day + 1) (omega arith) ∙ ap W.Found (moves_on day));
+      moves = λ day l. (weekday_on day, a_weekday day (omega arith), a_weekday (day + 1) (omega arith) ∙ ap Ok (moves_on day));
       number = next_number;
-      other_days = λ day l. ap (λ (a : WeekdayAnswer). (weekday_says a).number) (no_weekday day l);
-      first = a_weekday 0 (omega arith) ∙ ap W.Found first_weekday;
-      last = a_weekday 99999 (omega arith) ∙ ap W.Found (same_weekday (weekday_on 99999) Wednesday (number_on 99999));
+      other_days = λ day l. ap (λ (a : Result Weekday Refusal). (weekday_says a).number) (no_weekday day l);
+      first = a_weekday 0 (omega arith) ∙ ap Ok first_weekday;
+      last = a_weekday 99999 (omega arith) ∙ ap Ok (same_weekday (weekday_on 99999) Wednesday (number_on 99999));
     }

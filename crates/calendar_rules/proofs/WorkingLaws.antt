@@ -9,13 +9,13 @@ use native.Mathlib.Omega.{arith}
 use lib.IntN.{ℤ}
 use lib.Dec.{eqb}
 use borrow.Author.Tests.{eqb-true, eqb-false, eq-eqb, ne_eqb}
+use Rattle.std.specs.Prelude.{Result, Ok, Err}
 use Rattle.whole.proofs.ListLaws.{by_test}
 use Rattle.whole.proofs.Tests.{and_true}
 use Rattle.calendar_rules.specs.Working.{is_working, counted}
 use Rattle.calendar_rules.specs.Laws.{up_to, WorkingDaysAfter}
+use Rattle.calendar_rules.specs.declared.Refusal.{Refusal}
 use Rattle.calendar_rules.specs.declared.Refusal.TheVariants.{NoSuchDay}
-use Rattle.calendar_rules.specs.declared.DayAnswer.{DayAnswer}
-use Rattle.calendar_rules.specs.declared.DayAnswer.TheVariants.{Found, Refused}
 
 -- ---- days counted
 
@@ -84,7 +84,7 @@ module _ (p q : ℕ → Bool) (h : ℕ) (is : (x : ℕ) → q x ≡ p x && not (
 
 -- ---- the day that is found
 
-never : (d : ℕ) → Refused NoSuchDay ≡ Found d → ⊥
+never : (d : ℕ) → Err NoSuchDay ≡ Ok d → ⊥
 never d f = let z : ◌≡◌ {A = ℕ} 0 1 = cc in omega arith
 
 module _ (hs : List ℤ) where
@@ -119,23 +119,23 @@ module _ (hs : List ℤ) where
       no : works (suc day) ≡ false → WorkingDaysAfter hs (suc day) (count - 0) d
       no e = record { later = l; counts = omega (arith, a.counts, next_no works day e); none = λ z. absurd (omega (arith, n)); some = λ z. works_then }
 
-  pub finds : (left day count d : ℕ) → WorkingDaysAfter hs day count d → d ≤ day + left → counted hs left day count ≡ Found d
+  pub finds : (left day count d : ℕ) → WorkingDaysAfter hs day count d → d ≤ day + left → counted hs left day count ≡ Ok d
   unfolding counted
   finds zero day count d a l =
-      by_test (eqb count 0) (λ (t : Bool). cond t (Found day) (Refused NoSuchDay) ≡ Found d) (λ e. ap Found (sym (a.none (eqb-true count 0 e)))) (λ e. absurd (omega (arith, later_than day count d (eqb-false count 0 e) a)))
+      by_test (eqb count 0) (λ (t : Bool). cond t (Ok day) (Err NoSuchDay) ≡ Ok d) (λ e. ap Ok (sym (a.none (eqb-true count 0 e)))) (λ e. absurd (omega (arith, later_than day count d (eqb-false count 0 e) a)))
   finds (suc left) day count d a l =
-      by_test (eqb count 0) (λ (t : Bool). cond t (Found day) (counted hs left (suc day) (count - one (works (suc day)))) ≡ Found d) (λ e. ap Found (sym (a.none (eqb-true count 0 e)))) (λ e. finds left (suc day) (count - one (works (suc day))) d (further day count d (eqb-false count 0 e) a) (omega arith))
+      by_test (eqb count 0) (λ (t : Bool). cond t (Ok day) (counted hs left (suc day) (count - one (works (suc day)))) ≡ Ok d) (λ e. ap Ok (sym (a.none (eqb-true count 0 e)))) (λ e. finds left (suc day) (count - one (works (suc day))) d (further day count d (eqb-false count 0 e) a) (omega arith))
 
   -- too few working days are left
-  pub runs_out : (left day count : ℕ) → up_to works (day + left) < up_to works day + count → counted hs left day count ≡ Refused NoSuchDay
+  pub runs_out : (left day count : ℕ) → up_to works (day + left) < up_to works day + count → counted hs left day count ≡ Err NoSuchDay
   unfolding counted
   runs_out zero day count l =
       let s : day + 0 ≡ day = omega arith in
-      by_test (eqb count 0) (λ (t : Bool). cond t (Found day) (Refused NoSuchDay) ≡ Refused NoSuchDay) (λ e. absurd (omega (arith, eqb-true count 0 e, ap (up_to works) s))) (λ e. refl)
+      by_test (eqb count 0) (λ (t : Bool). cond t (Ok day) (Err NoSuchDay) ≡ Err NoSuchDay) (λ e. absurd (omega (arith, eqb-true count 0 e, ap (up_to works) s))) (λ e. refl)
   runs_out (suc left) day count l =
       let s : day + suc left ≡ suc day + left = omega arith in
       let f : day ≤ day + suc left = omega arith in
-      by_test (eqb count 0) (λ (t : Bool). cond t (Found day) (counted hs left (suc day) (count - one (works (suc day)))) ≡ Refused NoSuchDay)
+      by_test (eqb count 0) (λ (t : Bool). cond t (Ok day) (counted hs left (suc day) (count - one (works (suc day)))) ≡ Err NoSuchDay)
       (λ e. absurd (omega (arith, eqb-true count 0 e, no_fewer works day (day + suc left) f)))
       (λ e.
       runs_out left (suc day) (count - one (works (suc day)))
@@ -171,24 +171,24 @@ module _ (hs : List ℤ) where
           }
 
   -- no day later than those that are left is found, and none that isn't so many working days after
-  pub found_is : (left day count d : ℕ) → counted hs left day count ≡ Found d → (d ≤ day + left) × WorkingDaysAfter hs day count d
+  pub found_is : (left day count d : ℕ) → counted hs left day count ≡ Ok d → (d ≤ day + left) × WorkingDaysAfter hs day count d
   unfolding counted
   found_is zero day count d =
-      by_test (eqb count 0) (λ (t : Bool). cond t (Found day) (Refused NoSuchDay) ≡ Found d → (d ≤ day + 0) × WorkingDaysAfter hs day count d)
+      by_test (eqb count 0) (λ (t : Bool). cond t (Ok day) (Err NoSuchDay) ≡ Ok d → (d ≤ day + 0) × WorkingDaysAfter hs day count d)
       (λ e f. itself day count d 0 (eqb-true count 0 e) (cc)) (λ e f. absurd (never d f))
   found_is (suc left) day count d =
-      by_test (eqb count 0) (λ (t : Bool). cond t (Found day) (counted hs left (suc day) (count - one (works (suc day)))) ≡ Found d → (d ≤ day + suc left) × WorkingDaysAfter hs day count d)
+      by_test (eqb count 0) (λ (t : Bool). cond t (Ok day) (counted hs left (suc day) (count - one (works (suc day)))) ≡ Ok d → (d ≤ day + suc left) × WorkingDaysAfter hs day count d)
       (λ e f. itself day count d (suc left) (eqb-true count 0 e) (cc))
       (λ e f.
       let r = found_is left (suc day) (count - one (works (suc day))) d f in
       (omega (arith, r.0), nearer day count d (eqb-false count 0 e) r.1))
 
   -- where no day is found it is 27
-  pub else_27 : (P : DayAnswer → Type 0) (left day count : ℕ) → ((d : ℕ) → counted hs left day count ≡ Found d → P (Found d)) → P (Refused NoSuchDay) → P (counted hs left day count)
+  pub else_27 : (P : Result ℕ Refusal → Type 0) (left day count : ℕ) → ((d : ℕ) → counted hs left day count ≡ Ok d → P (Ok d)) → P (Err NoSuchDay) → P (counted hs left day count)
   unfolding counted
   else_27 P zero day count f r =
-      by_test (eqb count 0) (λ (t : Bool). ((d : ℕ) → cond t (Found day) (Refused NoSuchDay) ≡ Found d → P (Found d)) → P (cond t (Found day) (Refused NoSuchDay))) (λ e g. g day refl) (λ e g. r) f
+      by_test (eqb count 0) (λ (t : Bool). ((d : ℕ) → cond t (Ok day) (Err NoSuchDay) ≡ Ok d → P (Ok d)) → P (cond t (Ok day) (Err NoSuchDay))) (λ e g. g day refl) (λ e g. r) f
   else_27 P (suc left) day count f r =
       let next = counted hs left (suc day) (count - one (works (suc day))) in
-      by_test (eqb count 0) (λ (t : Bool). ((d : ℕ) → cond t (Found day) next ≡ Found d → P (Found d)) → P (cond t (Found day) next))
+      by_test (eqb count 0) (λ (t : Bool). ((d : ℕ) → cond t (Ok day) next ≡ Ok d → P (Ok d)) → P (cond t (Ok day) next))
       (λ e g. g day refl) (λ e g. else_27 P left (suc day) (count - one (works (suc day))) g r) f

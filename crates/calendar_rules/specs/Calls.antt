@@ -1,5 +1,5 @@
 -- docs/SPECIFICATION.md, "The calendar" and "Refused calls": the calendar's calls, and the numbers and values of their answers.
-use Rattle.std.specs.Prelude.{ℕ, zero, suc, ◌-◌, Bool, true, not, ◌&&◌, ◌||◌, cond, List, [], ◌∷◌, eqb, ltb, ℤ, pos}
+use Rattle.std.specs.Prelude.{ℕ, zero, suc, ◌-◌, Bool, true, not, ◌&&◌, ◌||◌, cond, List, [], ◌∷◌, eqb, ltb, ℤ, pos, Result, Ok, Err}
 use Rattle.std.proofs.Math.Option.{none, some}
 use Rattle.std.specs.Int.Signed.{lt_z}
 use Rattle.whole.specs.Lists.{any, Check, first_applying}
@@ -8,14 +8,9 @@ use Rattle.calendar_rules.specs.Dates.{date_on}
 use Rattle.calendar_rules.specs.Weekdays.{weekday_number, weekday_on}
 use Rattle.calendar_rules.specs.Working.{counted}
 use Rattle.calendar_rules.specs.declared.Date.{Date}
+use Rattle.calendar_rules.specs.declared.Weekday.{Weekday}
 use Rattle.calendar_rules.specs.declared.Refusal.{Refusal}
 use Rattle.calendar_rules.specs.declared.Refusal.TheVariants.{NoSuchDay, BadHolidays}
-use Rattle.calendar_rules.specs.declared.DayAnswer.{DayAnswer}
-use Rattle.calendar_rules.specs.declared.DayAnswer.TheVariants.{Found, Refused}
-use Rattle.calendar_rules.specs.declared.DateAnswer.{DateAnswer}
-use Rattle.calendar_rules.specs.declared.DateAnswer.TheVariants as D
-use Rattle.calendar_rules.specs.declared.WeekdayAnswer.{WeekdayAnswer}
-use Rattle.calendar_rules.specs.declared.WeekdayAnswer.TheVariants as W
 
 -- the refusal's number
 abbrev pub number_of : Refusal → ℕ
@@ -29,25 +24,25 @@ day_check day = record { applies = ltb 99999 day; answer = NoSuchDay }
 -- ---- dates and days
 
 -- the date of a day
-unfoldable pub date_of : ℕ → DateAnswer
-date_of day = first_applying (D.Found (date_on day)) D.Refused (day_check day ∷ [])
+unfoldable pub date_of : ℕ → Result Date Refusal
+date_of day = first_applying (Ok (date_on day)) Err (day_check day ∷ [])
 
 -- the two dates are the same
 abbrev pub same_date : Date → Date → Bool
 same_date d e = eqb d.year e.year && eqb d.month e.month && eqb d.day e.day
 
 -- the first of so many days, from one on, that has the date
-unfoldable pub first_with : Date → ℕ → ℕ → DayAnswer
-first_with d zero day = Refused NoSuchDay
-first_with d (suc left) day = cond (same_date (date_on day) d) (Found day) (first_with d left (suc day))
+unfoldable pub first_with : Date → ℕ → ℕ → Result ℕ Refusal
+first_with d zero day = Err NoSuchDay
+first_with d (suc left) day = cond (same_date (date_on day) d) (Ok day) (first_with d left (suc day))
 
 -- the day of a date: the one of 0..99999 that has it (27: there is none)
-unfoldable pub day_of : Date → DayAnswer
+unfoldable pub day_of : Date → Result ℕ Refusal
 day_of d = first_with d 100000 0
 
 -- the weekday of a day
-unfoldable pub weekday_of : ℕ → WeekdayAnswer
-weekday_of day = first_applying (W.Found (weekday_on day)) W.Refused (day_check day ∷ [])
+unfoldable pub weekday_of : ℕ → Result Weekday Refusal
+weekday_of day = first_applying (Ok (weekday_on day)) Err (day_check day ∷ [])
 
 -- ---- working days
 
@@ -70,26 +65,28 @@ abbrev pub working_checks : ℕ → List ℤ → List (Check Refusal)
 working_checks day holidays = day_check day ∷ record { applies = bad_holidays holidays; answer = BadHolidays } ∷ []
 
 -- the day that is so many working days after a day (27 last: it is past 99999)
-unfoldable pub working_day : ℕ → ℕ → List ℤ → DayAnswer
-working_day day count holidays = first_applying (counted holidays (99999 - day) day count) Refused (working_checks day holidays)
+unfoldable pub working_day : ℕ → ℕ → List ℤ → Result ℕ Refusal
+working_day day count holidays = first_applying (counted holidays (99999 - day) day count) Err (working_checks day holidays)
 
 -- the day by which monitoring results are due: 2 working days after retrieval, the day of retrieval excluded
-unfoldable pub results_due : ℕ → List ℤ → DayAnswer
+unfoldable pub results_due : ℕ → List ℤ → Result ℕ Refusal
 results_due day holidays = working_day day 2 holidays
 
 -- ---- the number and the values of each answer
 
+-- the refusal's number, or what is listed of the value
+abbrev pub answer_says : {A : Type 0} → (A → List ℤ) → Result A Refusal → Says
+answer_says values (Ok x) = record { number = none; values = values x }
+answer_says values (Err r) = record { number = some (number_of r); values = [] }
+
 -- a day
-abbrev pub day_says : DayAnswer → Says
-day_says (Found day) = record { number = none; values = pos day ∷ [] }
-day_says (Refused r) = record { number = some (number_of r); values = [] }
+abbrev pub day_says : Result ℕ Refusal → Says
+day_says = answer_says (λ day. pos day ∷ [])
 
 -- year, month, day
-abbrev pub date_says : DateAnswer → Says
-date_says (D.Found d) = record { number = none; values = pos d.year ∷ pos d.month ∷ pos d.day ∷ [] }
-date_says (D.Refused r) = record { number = some (number_of r); values = [] }
+abbrev pub date_says : Result Date Refusal → Says
+date_says = answer_says (λ d. pos d.year ∷ pos d.month ∷ pos d.day ∷ [])
 
 -- the weekday's number
-abbrev pub weekday_says : WeekdayAnswer → Says
-weekday_says (W.Found w) = record { number = none; values = pos (weekday_number w) ∷ [] }
-weekday_says (W.Refused r) = record { number = some (number_of r); values = [] }
+abbrev pub weekday_says : Result Weekday Refusal → Says
+weekday_says = answer_says (λ w. pos (weekday_number w) ∷ [])

@@ -1,5 +1,5 @@
 -- What the calendar promises besides the calls' contracts.
-use Rattle.std.specs.Prelude.{ℕ, zero, suc, ◌+◌, ◌*◌, ◌%◌, ◌≤◌, ◌<◌, ◌≡◌, Bool, true, false, cond, List, ◌↔◌, ℤ, length}
+use Rattle.std.specs.Prelude.{ℕ, zero, suc, ◌+◌, ◌*◌, ◌%◌, ◌≤◌, ◌<◌, ◌≡◌, Bool, true, false, cond, List, ◌↔◌, ℤ, length, Ok}
 use Rattle.std.proofs.Math.Option.{some}
 use Rattle.calendar_rules.specs.Dates.{date, month_length}
 use Rattle.calendar_rules.specs.Weekdays.{weekday_number, next_weekday}
@@ -8,9 +8,6 @@ use Rattle.calendar_rules.specs.Calls.{day_of, date_of, weekday_of, bad_holidays
 use Rattle.calendar_rules.specs.declared.Date.{Date}
 use Rattle.calendar_rules.specs.declared.Weekday.{Weekday}
 use Rattle.calendar_rules.specs.declared.Weekday.TheVariants.{Wednesday, Saturday}
-use Rattle.calendar_rules.specs.declared.DayAnswer.TheVariants.{Found}
-use Rattle.calendar_rules.specs.declared.DateAnswer.TheVariants as D
-use Rattle.calendar_rules.specs.declared.WeekdayAnswer.TheVariants as W
 
 -- ---- dates and days
 
@@ -32,25 +29,25 @@ pub record InCalendar (d : Date) : Type 0 where
 -- days and dates turn into each other, each from first to last, and there are no others
 pub record CalendarExact : Type 0 where
   -- every day of 0..99999 has a date of the calendar, which turns back into it
-  pub days : (day : ℕ) → day ≤ 99999 → (d : Date) × (date_of day ≡ D.Found d) × InCalendar d × (day_of d ≡ Found day)
+  pub days : (day : ℕ) → day ≤ 99999 → (d : Date) × (date_of day ≡ Ok d) × InCalendar d × (day_of d ≡ Ok day)
   -- every date from first to last turns into a day and comes back
-  pub dates : (d : Date) → InCalendar d → (day : ℕ) × (day_of d ≡ Found day) × (day ≤ 99999) × (date_of day ≡ D.Found d)
+  pub dates : (d : Date) → InCalendar d → (day : ℕ) × (day_of d ≡ Ok day) × (day ≤ 99999) × (date_of day ≡ Ok d)
   -- no other triple of numbers is a date, and no other number a day
   pub other_dates : (d : Date) → (InCalendar d → ⊥) → (day_says (day_of d)).number ≡ some 27
   pub other_days : (day : ℕ) → 99999 < day → (date_says (date_of day)).number ≡ some 27
   -- a later date has a later day
-  pub rises : (d e : Date) → InCalendar d → InCalendar e → written d < written e → (m n : ℕ) → day_of d ≡ Found m → day_of e ≡ Found n → m < n
-  pub first : date_of 0 ≡ D.Found (date 2000 1 1)
-  pub last : date_of 99999 ≡ D.Found (date 2273 10 15)
+  pub rises : (d e : Date) → InCalendar d → InCalendar e → written d < written e → (m n : ℕ) → day_of d ≡ Ok m → day_of e ≡ Ok n → m < n
+  pub first : date_of 0 ≡ Ok (date 2000 1 1)
+  pub last : date_of 99999 ≡ Ok (date 2273 10 15)
 
 -- the weekday moves on by one with each day, from a Saturday to a Wednesday
 pub record WeekdaysExact : Type 0 where
-  pub moves : (day : ℕ) → day < 99999 → (w : Weekday) × (weekday_of day ≡ W.Found w) × (weekday_of (day + 1) ≡ W.Found (next_weekday w))
+  pub moves : (day : ℕ) → day < 99999 → (w : Weekday) × (weekday_of day ≡ Ok w) × (weekday_of (day + 1) ≡ Ok (next_weekday w))
   -- by its number, after which comes the next, and after 7 comes 1
   pub number : (w : Weekday) → weekday_number (next_weekday w) ≡ weekday_number w % 7 + 1
   pub other_days : (day : ℕ) → 99999 < day → (weekday_says (weekday_of day)).number ≡ some 27
-  pub first : weekday_of 0 ≡ W.Found Saturday
-  pub last : weekday_of 99999 ≡ W.Found Wednesday
+  pub first : weekday_of 0 ≡ Ok Saturday
+  pub last : weekday_of 99999 ≡ Ok Wednesday
 
 -- ---- working days
 
@@ -69,7 +66,7 @@ pub record WorkingDaysAfter (holidays : List ℤ) (day count d : ℕ) : Type 0 w
 -- the working-day call finds a day exactly where there is one up to 99999 that is so many working days after
 pub record WorkingExact : Type 0 where
   pub exactly : (day count : ℕ) (holidays : List ℤ) → day ≤ 99999 → bad_holidays holidays ≡ false
-      → (d : ℕ) → (working_day day count holidays ≡ Found d) ↔ ((d ≤ 99999) × WorkingDaysAfter holidays day count d)
+      → (d : ℕ) → (working_day day count holidays ≡ Ok d) ↔ ((d ≤ 99999) × WorkingDaysAfter holidays day count d)
   -- and where there is none it answers 27
   pub otherwise : (day count : ℕ) (holidays : List ℤ) → day ≤ 99999 → bad_holidays holidays ≡ false
       → ((d : ℕ) → d ≤ 99999 → WorkingDaysAfter holidays day count d → ⊥) → (day_says (working_day day count holidays)).number ≡ some 27

@@ -2,6 +2,10 @@
 
 #![tactic(auto)]
 
+ghost use Rattle.std.specs.Prelude.{◌≡◌};
+ghost use Rattle.calendar_rules.specs.Weekdays.{weekday_number};
+ghost use Rattle.calendar_rules.specs.Calls.{number_of};
+
 // ---- the rules' numbers
 
 // The year of day 0.
@@ -29,7 +33,7 @@ pub const DUE_DAYS: u32 = 2;
 
 // ---- dates and weekdays
 
-// Year, month 1 to 12, day 1 to the month's length.
+// Year, month 1 to 12, day 1 to the month's length. What computes with it are functions of calendar_dates, not methods: these would have to stand here, in a crate of rules.
 #[derive(Clone, Copy)]
 pub struct Date {
     pub year: u32,
@@ -37,9 +41,10 @@ pub struct Date {
     pub day: u32,
 }
 
+// Numbered as in ISO 8601.
 #[derive(Clone, Copy)]
 pub enum Weekday {
-    Monday,
+    Monday = 1,
     Tuesday,
     Wednesday,
     Thursday,
@@ -48,29 +53,28 @@ pub enum Weekday {
     Sunday,
 }
 
-// ---- answers
+// The weekday's number.
+impl From<Weekday> for u32 {
+    ghost from_gives = { λ w n. n ≡ weekday_number w };
 
-// Numbers 27 and 28.
+    fn from(w: Weekday) -> u32 {
+        w as u32
+    }
+}
+
+// ---- refusals
+
 #[derive(Clone, Copy)]
 pub enum Refusal {
-    NoSuchDay,
-    BadHolidays,
+    NoSuchDay = 27,
+    BadHolidays = 28,
 }
 
-#[derive(Clone, Copy)]
-pub enum DayAnswer {
-    Found(u32),
-    Refused(Refusal),
-}
+// The refusal's number.
+impl From<Refusal> for u32 {
+    ghost from_gives = { λ r n. n ≡ number_of r };
 
-#[derive(Clone, Copy)]
-pub enum DateAnswer {
-    Found(Date),
-    Refused(Refusal),
-}
-
-#[derive(Clone, Copy)]
-pub enum WeekdayAnswer {
-    Found(Weekday),
-    Refused(Refusal),
+    fn from(r: Refusal) -> u32 {
+        r as u32
+    }
 }

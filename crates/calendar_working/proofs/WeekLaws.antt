@@ -26,10 +26,10 @@ five_a_week (suc day) =
     let l = ltb-false ((suc day + 5) % 7) 5 e in
     omega (arith, next_no monday_to_friday day (five_of_seven (suc day) ∙ e), five_a_week day))
 
--- the day up to which there are so many, one more than those before
-pub with_so_many : (before : ℕ) → HasUpTo (suc before) (7 * (before / 5) + before % 5 + 2)
-with_so_many before =
-    let d = 7 * (before / 5) + before % 5 + 2 in
+-- the day up to which there are so many
+pub with_so_many : (count : ℕ) → 1 ≤ count → HasUpTo count (7 * ((count - 1) / 5) + (count - 1) % 5 + 2)
+with_so_many count some =
+    let d = 7 * ((count - 1) / 5) + (count - 1) % 5 + 2 in
     record { counts = omega (arith, five_a_week d); itself = five_of_seven d ∙ lt-ltb ((d + 5) % 7) 5 (omega arith) }
 
 -- ---- without holidays

@@ -8,7 +8,6 @@ ghost use Rattle.calendar_rules.specs.Laws.{up_to, WorkingDaysAfter};
 ghost use Rattle.calendar_working.specs.Passes.{next_of, passed_of, HasUpTo};
 
 use calendar_rules::{SINCE_MONDAY, WEEK, WORKING_WEEK};
-use whole::flags;
 
 // The week in 64 bits, in which a count of working days does not overflow.
 const DAYS: u64 = WEEK as u64;
@@ -27,6 +26,7 @@ fn monday_to_friday(day: u64) -> bool
 }
 
 // How many of the days from day 1 on that come before this one are of Monday to Friday.
+#[tactic(auto, using(crate::proofs::WeekLaws::five_a_week))]
 fn count_before(day: u64) -> u64
     requires { day ≤ 100000 }
     ensures { (result ≡ up_to monday_to_friday (day - 1)) × (result ≤ 100000) }
@@ -53,34 +53,35 @@ pub fn without_holidays(day: u32, count: u32) -> u64
     ensures { (0 < count → WorkingDaysAfter [] day count result) × (result ≤ 7000000000) }
 {
     if count == 0 {
-        return day as u64;
+        return u64::from(day);
     }
-    let first = day as u64 + 1;
-    day_with(count_before(first) + count as u64)
+    let first = u64::from(day) + 1;
+    day_with(count_before(first) + u64::from(count))
 }
 
 // The next day of Monday to Friday after one of them: after a Friday comes a Monday.
+#[tactic(auto, unfolding(crate::specs::Passes::next_of))]
 fn next(day: u64) -> u64
     requires { day ≤ 8000000000 }
     ensures { result ≡ next_of day }
 {
     if (day + OFFSET) % DAYS == FRIDAY {
-        return day + 3;
+        day + 3
+    } else {
+        day + 1
     }
-    day + 1
 }
 
 // The day found where one holiday more is listed, later than those before it: if it was counted, the next one is found instead.
+#[tactic(auto, unfolding(crate::specs::Passes::passed_of))]
 pub fn passed(day: u32, holiday: u32, found: u64) -> u64
     requires { (holiday ≤ 99999) × (found ≤ 8000000000) }
     ensures { result ≡ passed_of day holiday found }
 {
-    let listed = holiday as u64;
-    if flags::both(
-        flags::both(day < holiday, listed <= found),
-        monday_to_friday(listed),
-    ) {
-        return next(found);
+    let listed = u64::from(holiday);
+    if day < holiday && listed <= found && monday_to_friday(listed) {
+        next(found)
+    } else {
+        found
     }
-    found
 }

@@ -2,12 +2,11 @@
 
 #![tactic(auto)]
 
-use calendar_rules::{Date, DateAnswer, DayAnswer, Refusal, WeekdayAnswer};
+use calendar_rules::{Date, Refusal};
 use std::io;
 
-fn refused(rt: &impl Print, r: Refusal) -> io::Result<()> {
-    let number = calendar_numbers::number_of(r);
-    print!(rt; " refused {number}")
+fn refused(rt: &impl Print, refusal: Refusal) -> io::Result<()> {
+    print!(rt; " refused {}", u32::from(refusal))
 }
 
 // ---- dates and days
@@ -15,15 +14,12 @@ fn refused(rt: &impl Print, r: Refusal) -> io::Result<()> {
 // The weekday and the date of a day.
 fn told(rt: &impl Print, day: u32) -> io::Result<()> {
     match calendar::weekday(day) {
-        WeekdayAnswer::Found(w) => {
-            let number = calendar_numbers::weekday_number(w);
-            print!(rt; " weekday {number}")?;
-        }
-        WeekdayAnswer::Refused(r) => refused(rt, r)?,
+        Ok(weekday) => print!(rt; " weekday {}", u32::from(weekday))?,
+        Err(refusal) => refused(rt, refusal)?,
     }
     match calendar::date_from_day(day) {
-        DateAnswer::Found(d) => print!(rt; " date {} {} {}", d.year, d.month, d.day),
-        DateAnswer::Refused(r) => refused(rt, r),
+        Ok(date) => print!(rt; " date {} {} {}", date.year, date.month, date.day),
+        Err(refusal) => refused(rt, refusal),
     }
 }
 
@@ -31,11 +27,11 @@ fn told(rt: &impl Print, day: u32) -> io::Result<()> {
 fn on(rt: &impl Print, year: u32, month: u32, day: u32) -> io::Result<()> {
     print!(rt; "  {year} {month} {day}:")?;
     match calendar::day_from_date(Date { year, month, day }) {
-        DayAnswer::Found(n) => {
-            print!(rt; " day {n}")?;
-            told(rt, n)?;
+        Ok(found) => {
+            print!(rt; " day {found}")?;
+            told(rt, found)?;
         }
-        DayAnswer::Refused(r) => refused(rt, r)?,
+        Err(refusal) => refused(rt, refusal)?,
     }
     println!(rt)
 }
@@ -79,15 +75,13 @@ fn no_dates(rt: &impl Print) -> io::Result<()> {
 
 // ---- working days
 
-fn found(rt: &impl Print, a: DayAnswer) -> io::Result<()> {
-    match a {
-        DayAnswer::Found(n) => println!(rt; ": day {n}"),
-        DayAnswer::Refused(r) => {
-            print!(rt; ":")?;
-            refused(rt, r)?;
-            println!(rt)
-        }
+fn found(rt: &impl Print, answer: Result<u32, Refusal>) -> io::Result<()> {
+    print!(rt; ":")?;
+    match answer {
+        Ok(day) => print!(rt; " day {day}")?,
+        Err(refusal) => refused(rt, refusal)?,
     }
+    println!(rt)
 }
 
 fn after(rt: &impl Print, day: u32, count: u32, holidays: &[i32]) -> io::Result<()> {
@@ -102,19 +96,18 @@ fn due(rt: &impl Print, day: u32, holidays: &[i32]) -> io::Result<()> {
 
 // Day 0 is a Saturday, day 2 a Monday, day 6 a Friday.
 fn counted(rt: &impl Print) -> io::Result<()> {
-    let none: [i32; 0] = [];
     println!(rt; "no holidays")?;
-    after(rt, 0, 0, &none)?;
-    after(rt, 1, 0, &none)?;
-    after(rt, 0, 1, &none)?;
-    after(rt, 2, 1, &none)?;
-    after(rt, 6, 1, &none)?;
-    after(rt, 6, 5, &none)?;
-    after(rt, 0, 71428, &none)?;
-    after(rt, 0, 71429, &none)?;
-    after(rt, 0, 4294967295, &none)?;
-    due(rt, 5, &none)?;
-    due(rt, 6, &none)
+    after(rt, 0, 0, &[])?;
+    after(rt, 1, 0, &[])?;
+    after(rt, 0, 1, &[])?;
+    after(rt, 2, 1, &[])?;
+    after(rt, 6, 1, &[])?;
+    after(rt, 6, 5, &[])?;
+    after(rt, 0, 71428, &[])?;
+    after(rt, 0, 71429, &[])?;
+    after(rt, 0, 4294967295, &[])?;
+    due(rt, 5, &[])?;
+    due(rt, 6, &[])
 }
 
 fn passed_over(rt: &impl Print) -> io::Result<()> {

@@ -6,10 +6,10 @@ use std::io;
 // A station in its places.
 pub(crate) type Places = [i32; STATION_PLACES];
 
-// A station that is opened without a word.
+// A station that is opened without a word. The row is the number that an opening takes.
 pub(crate) fn fresh(row: usize) -> Places {
     let mut state = [0; STATION_PLACES];
-    station::open(&mut state, row);
+    let _answer = station::open(&mut state, row);
     state
 }
 
@@ -24,15 +24,16 @@ pub(crate) fn sheet(
     rt: &impl Print,
     s: Places,
     day: u32,
-    numbers: [i32; sheets::WHEAT_NUMBERS],
+    line: usize,
+    numbers: &[i32],
 ) -> io::Result<Places> {
     let mut state = s;
-    let answer = station::sheet(&mut state, day, 0, &numbers);
-    say::sheet(rt, day, 0, answer)?;
+    let answer = station::sheet(&mut state, day, line, numbers);
+    say::sheet(rt, day, line, answer)?;
     Ok(state)
 }
 
-// A wheat sheet of six samples alike.
+// A wheat sheet of six samples alike; a corn sheet below is another grain's, and names its line.
 pub(crate) fn alike(
     rt: &impl Print,
     s: Places,
@@ -40,7 +41,7 @@ pub(crate) fn alike(
     baseline: i32,
     res: i32,
 ) -> io::Result<Places> {
-    sheet(rt, s, day, sheets::wheat(baseline, res))
+    sheet(rt, s, day, 0, &sheets::wheat(baseline, res))
 }
 
 // A wheat sheet of five samples alike, and the last with its own pair and again results.
@@ -51,9 +52,10 @@ pub(crate) fn but_last(
     res: i32,
     last: [i32; 3],
 ) -> io::Result<Places> {
-    sheet(rt, s, day, sheets::but_last(res, last))
+    sheet(rt, s, day, 0, &sheets::but_last(res, last))
 }
 
+// A corn sheet of four samples alike, with baseline 1000.
 pub(crate) fn corn_sheet(
     rt: &impl Print,
     s: Places,
@@ -61,11 +63,7 @@ pub(crate) fn corn_sheet(
     line: usize,
     res: i32,
 ) -> io::Result<Places> {
-    let numbers = sheets::corn(res);
-    let mut state = s;
-    let answer = station::sheet(&mut state, day, line, &numbers);
-    say::sheet(rt, day, line, answer)?;
-    Ok(state)
+    sheet(rt, s, day, line, &sheets::corn(1000, res))
 }
 
 pub(crate) fn repair(rt: &impl Print, s: Places, day: u32) -> io::Result<Places> {
@@ -75,6 +73,22 @@ pub(crate) fn repair(rt: &impl Print, s: Places, day: u32) -> io::Result<Places>
     Ok(state)
 }
 
+fn asked(
+    rt: &impl Print,
+    s: Places,
+    day: u32,
+    line: usize,
+    scan: Scan,
+    asked: Asked,
+    basis: Basis,
+) -> io::Result<Places> {
+    let mut state = s;
+    let answer = market::market(&mut state, day, line, scan, asked, basis);
+    say::market(rt, day, line, answer)?;
+    Ok(state)
+}
+
+// The figure of line 0 asked for.
 pub(crate) fn market(
     rt: &impl Print,
     s: Places,
@@ -82,10 +96,7 @@ pub(crate) fn market(
     scan: Scan,
     basis: Basis,
 ) -> io::Result<Places> {
-    let mut state = s;
-    let answer = market::market(&mut state, day, 0, scan, Asked::LineFigure, basis);
-    say::market(rt, day, 0, answer)?;
-    Ok(state)
+    asked(rt, s, day, 0, scan, Asked::LineFigure, basis)
 }
 
 // Gluten of a class asked for.
@@ -98,12 +109,10 @@ pub(crate) fn gluten(
     class: WheatClass,
     basis: Basis,
 ) -> io::Result<Places> {
-    let mut state = s;
-    let answer = market::market(&mut state, day, line, scan, Asked::Gluten(class), basis);
-    say::market(rt, day, line, answer)?;
-    Ok(state)
+    asked(rt, s, day, line, scan, Asked::Gluten(class), basis)
 }
 
+// A corn line's figure asked for, at its standard basis.
 pub(crate) fn corn_market(
     rt: &impl Print,
     s: Places,
@@ -111,15 +120,6 @@ pub(crate) fn corn_market(
     line: usize,
     set: CornSet,
 ) -> io::Result<Places> {
-    let mut state = s;
-    let answer = market::market(
-        &mut state,
-        day,
-        line,
-        Scan::Corn(set),
-        Asked::LineFigure,
-        Basis::Standard,
-    );
-    say::market(rt, day, line, answer)?;
-    Ok(state)
+    let scan = Scan::Corn(set);
+    asked(rt, s, day, line, scan, Asked::LineFigure, Basis::Standard)
 }

@@ -30,7 +30,7 @@ pub(crate) fn shut_by_none(rt: &impl Print) -> io::Result<()> {
     say::heading(rt, "shut by N = 0")?;
     let new = calls::open(rt, 0)?;
     let open = calls::alike(rt, new, 1, 1000, 1000)?;
-    let shut = calls::sheet(rt, open, 2, sheets::apart(1100, 900))?;
+    let shut = calls::sheet(rt, open, 2, 0, &sheets::apart(1100, 900))?;
     let refused = calls::market(rt, shut, 2, Scan::Wheat(12.0), Basis::Dry)?;
     let checked = calls::alike(rt, refused, 3, 1000, 1000)?;
     calls::market(rt, checked, 3, Scan::Wheat(12.0), Basis::Dry)?;

@@ -54,7 +54,7 @@ pub(crate) fn lines(rt: &impl Print, due: Places) -> io::Result<()> {
     )?;
     calls::market(rt, calls::fresh(0), 1, Scan::Wheat(12.0), Basis::Dry)?;
     calls::market(rt, due, 1, Scan::Wheat(12.0), Basis::Dry)?;
-    let shut = calls::sheet(rt, due, 1, sheets::apart(1100, 900))?;
+    let shut = calls::sheet(rt, due, 1, 0, &sheets::apart(1100, 900))?;
     calls::market(rt, shut, 1, Scan::Wheat(12.0), Basis::Dry)?;
     let open = calls::alike(rt, due, 1, 1000, 1011)?;
     calls::market(rt, open, 9, Scan::Wheat(12.0), Basis::Dry)?;

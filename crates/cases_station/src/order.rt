@@ -2,14 +2,13 @@
 use super::calls::Places;
 use super::sheets::Sample;
 use super::{calls, say, sheets};
-use station_rules::{Outcome, STATION_PLACES, SheetAnswer};
+use station_rules::{Outcome, Refusal};
 use std::io;
-use whole::flags;
 
 // A call's answer, and the places that it left.
-#[derive(Clone, Copy)]
+#[derive(Clone, Copy, PartialEq)]
 struct Came {
-    answer: SheetAnswer,
+    answer: Result<Outcome, Refusal>,
     left: Places,
 }
 
@@ -22,53 +21,16 @@ fn entered(rt: &impl Print, s: Places, a: Sample, b: Sample, c: Sample) -> io::R
     Ok(Came { answer, left })
 }
 
-fn same_outcome(x: Outcome, y: Outcome) -> bool {
-    let set = flags::both(x.sum == y.sum, x.count == y.count);
-    let line = flags::both(x.phase == y.phase, x.change == y.change);
-    flags::both(set, line)
-}
-
-fn same_answer(x: SheetAnswer, y: SheetAnswer) -> bool {
-    match x {
-        SheetAnswer::Accepted(o) => match y {
-            SheetAnswer::Accepted(p) => same_outcome(o, p),
-            SheetAnswer::Refused(_) => false,
-        },
-        SheetAnswer::Refused(q) => match y {
-            SheetAnswer::Accepted(_) => false,
-            SheetAnswer::Refused(r) => station_refusals::number(q) == station_refusals::number(r),
-        },
-    }
-}
-
-// Every place holds the same.
-fn same_places(x: Places, y: Places) -> bool {
-    let mut same = true;
-    let mut i = 0;
-    while i < STATION_PLACES {
-        same = flags::both(same, x[i] == y[i]);
-        i += 1;
-    }
-    same
-}
-
-fn came_alike(x: Came, y: Came) -> bool {
-    let x_answer = x.answer;
-    let y_answer = y.answer;
-    let x_left = x.left;
-    let y_left = y.left;
-    flags::both(same_answer(x_answer, y_answer), same_places(x_left, y_left))
-}
-
 // The sheet in all six orders on an open line, and whether each came to the same as the first.
 fn every_order(rt: &impl Print, a: Sample, b: Sample, c: Sample) -> io::Result<()> {
     let s = calls::alike(rt, calls::fresh(0), 1, 1000, 1000)?;
     let first = entered(rt, s, a, b, c)?;
-    let mut same = came_alike(first, entered(rt, s, a, c, b)?);
-    same = flags::both(same, came_alike(first, entered(rt, s, b, a, c)?));
-    same = flags::both(same, came_alike(first, entered(rt, s, b, c, a)?));
-    same = flags::both(same, came_alike(first, entered(rt, s, c, a, b)?));
-    same = flags::both(same, came_alike(first, entered(rt, s, c, b, a)?));
+    let orders = [[a, c, b], [b, a, c], [b, c, a], [c, a, b], [c, b, a]];
+    let mut same = true;
+    for [x, y, z] in orders {
+        let came = entered(rt, s, x, y, z)?;
+        same = same && came == first;
+    }
     say::orders(rt, same)?;
     Ok(())
 }

@@ -11,7 +11,7 @@ fn tested(rt: &impl Print, s: Places, day: u32) -> io::Result<Places> {
 
 // A sheet of which no sample is kept.
 fn none_kept(rt: &impl Print, s: Places, day: u32) -> io::Result<Places> {
-    calls::sheet(rt, s, day, sheets::apart(1100, 900))
+    calls::sheet(rt, s, day, 0, &sheets::apart(1100, 900))
 }
 
 // The newest sheet decides, and a repair leaves it so.

@@ -8,70 +8,60 @@ ghost use Rattle.chart_rules.specs.Calls.{result_of, bytes_of};
 ghost use Rattle.chart_rules.specs.Places.{chart_at};
 ghost use Rattle.chart_rules.specs.InPlace.{open_in, left_by, chart_set_in};
 
-use chart_rules::{CHART_PLACES, Chart, ChartAnswer, Judgement, OpenAnswer, ROWS, Refusal, Values};
+use chart_rules::{CHART_PLACES, Charted, ROWS, Refusal};
 
 // The rows as an index.
 const CHART_ROWS: usize = ROWS as usize;
 
 // ---- opening
 
-// A fresh chart of a row; a refused opening leaves one of row 0.
-pub fn open(state: &mut [i32; CHART_PLACES], row: usize) -> OpenAnswer
+// A fresh chart of a row; a refused opening leaves one of row 0. The row is the number that C hands in.
+#[tactic(auto, unfolding(chart_rules::specs::InPlace::open_in, chart_rules::specs::Calls::open_of, chart_rules::specs::Calls::opening))]
+pub fn open(state: &mut [i32; CHART_PLACES], row: usize) -> Result<(), Refusal>
     ensures { record { answer = result; places = state.new } ≡ open_in row }
 {
     if row < CHART_ROWS {
         chart_state::put_fresh(state, row as u32);
-        return OpenAnswer::Opened;
+        return Ok(());
     }
     chart_state::put_fresh(state, 0);
-    OpenAnswer::Refused(Refusal::UnknownRow)
+    Err(Refusal::UnknownRow)
 }
 
 // ---- one set
 
-// A set judged first, and its line written last, from position at on.
-fn answer_at(chart: Chart, week: u32, numbers: &[i32], out: &mut [u8], at: usize) -> ChartAnswer
-    requires { at ≤ length out.old }
-    ensures value { result ≡ (result_of chart week numbers.now (length out.old - at)).answer }
-    ensures put { Put out.old at (bytes_of result) out.new (at + length (bytes_of result)) }
-{
-    let room = out.len() - at;
-    match chart_refusals::judge_call(chart, week, numbers, room) {
-        Judgement::Refused(refusal) => ChartAnswer::Refused(refusal),
-        Judgement::Fine => {
-            let s = chart_sets::set_of(numbers);
-            let values = chart_line::values_of(chart, week, s);
-            let end = chart_line::write_values(out, at, values);
-            ChartAnswer::Charted(values, end - at)
-        }
-    }
-}
-
-// One set charted in its caller's places, its line written from position at on. A refused call writes nothing.
+// One set judged first, then charted in its caller's places, its line written from position at on. A refused call writes nothing.
 pub fn chart_set_at(
     state: &mut [i32],
     week: u32,
     numbers: &[i32],
     out: &mut [u8],
     at: usize,
-) -> ChartAnswer
+) -> Result<Charted, Refusal>
     requires { at ≤ length out.old }
     ensures value { result ≡ (result_of (chart_at state.old) week numbers.now (length out.old - at)).answer }
     ensures state_after { state.new ≡ left_by result state.old week numbers.now }
     ensures put { Put out.old at (bytes_of result) out.new (at + length (bytes_of result)) }
 {
     let chart = chart_state::chart_at(state);
-    match answer_at(chart, week, numbers, out, at) {
-        ChartAnswer::Refused(refusal) => ChartAnswer::Refused(refusal),
-        ChartAnswer::Charted(values, length) => {
-            chart_state::put_next(state, week, chart_line::set_in(values));
-            ChartAnswer::Charted(values, length)
-        }
-    }
+    chart_refusals::judge_call(chart, week, numbers, out.len() - at)?;
+    let s = chart_sets::set_of(numbers);
+    let values = chart_line::values_of(chart, week, s);
+    let end = chart_line::write_values(out, at, values);
+    chart_state::put_next(state, week, s);
+    Ok(Charted {
+        values,
+        length: end - at,
+    })
 }
 
 // The call: its output line stands at the buffer's start, and no later byte is touched.
-pub fn chart_set(state: &mut [i32], week: u32, numbers: &[i32], out: &mut [u8]) -> ChartAnswer
+pub fn chart_set(
+    state: &mut [i32],
+    week: u32,
+    numbers: &[i32],
+    out: &mut [u8],
+) -> Result<Charted, Refusal>
     ensures { record { answer = result; places = state.new; buffer = out.new } ≡ chart_set_in state.old week numbers.now out.old }
 {
     chart_set_at(state, week, numbers, out, 0)

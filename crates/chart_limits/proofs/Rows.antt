@@ -41,12 +41,3 @@ small_limits l e =
 pub row_small : (row : ℕ) → SmallLimits (limits_of row)
 unfolding limits_of
 row_small row = small_limits _ (all_at small _ rows row none_small rows_small)
-
--- a row behind the table's end
-pub no_row : (row : ℕ) → (row ≡ 0 → ⊥) → (row ≡ 1 → ⊥) → (row ≡ 2 → ⊥) → (row ≡ 3 → ⊥) → limits 0 0 0 0 0 ≡ limits_of row
-unfolding limits_of
-no_row zero a b c d = absurd (a refl)
-no_row (suc zero) a b c d = absurd (b refl)
-no_row (suc (suc zero)) a b c d = absurd (c refl)
-no_row (suc (suc (suc zero))) a b c d = absurd (d refl)
-no_row (suc (suc (suc (suc row)))) a b c d = refl

@@ -2,18 +2,25 @@
 
 #![tactic(auto)]
 
-ghost use Rattle.std.specs.Prelude.{◌≡◌, ◌&&◌, ◌||◌, ◌≤◌, take};
+ghost use Rattle.std.specs.Prelude.{◌≡◌, ◌*◌, ◌≤◌, pos, neg_ℤ};
 ghost use Rattle.chart_sets.specs.Fits.{SetFits, AllFit};
 ghost use Rattle.chart_rules.specs.Rows.{limits_of};
-ghost use Rattle.chart_rules.specs.Limits.{at_or_above, at_or_below, absolute as absolute_of, tolerance as tolerance_of, range_tolerance};
+ghost use Rattle.chart_rules.specs.Limits.{absolute as absolute_of, tolerance as tolerance_of, range_tolerance};
 
-use chart_rules::{ChartSet, HELD_SETS, Limits};
-use whole::flags;
+use chart_rules::{ChartSet, Limits};
 
-// Limits from their numbers, in the order of the table's columns.
-fn limits_from(al: u32, tl: u32, run: u32, ral: u32, rtl: u32) -> Limits
-    ensures { result ≡ record { al = al; tl = tl; run = run; ral = ral; rtl = rtl } }
+// A row's limits; a row that doesn't exist has limits of 0. The row is a number, as C hands it in and the places hold it.
+#[tactic(auto, unfolding(chart_rules::specs::Rows::limits_of))]
+pub fn limits_of(row: u32) -> Limits
+    ensures { result ≡ limits_of row }
 {
+    let (al, tl, run, ral, rtl) = match row {
+        0 => (20, 15, 10, 60, 40),
+        1 => (25, 20, 10, 70, 50),
+        2 => (25, 20, 15, 80, 60),
+        3 => (20, 15, 10, 60, 45),
+        _ => (0, 0, 0, 0, 0),
+    };
     Limits {
         al,
         tl,
@@ -23,74 +30,40 @@ fn limits_from(al: u32, tl: u32, run: u32, ral: u32, rtl: u32) -> Limits
     }
 }
 
-// A row's limits; a row that doesn't exist has limits of 0.
-pub fn limits_of(row: u32) -> Limits
-    ensures { result ≡ limits_of row }
-{
-    match row {
-        0 => limits_from(20, 15, 10, 60, 40),
-        1 => limits_from(25, 20, 10, 70, 50),
-        2 => limits_from(25, 20, 15, 80, 60),
-        3 => limits_from(20, 15, 10, 60, 45),
-        _ => limits_from(0, 0, 0, 0, 0),
-    }
-}
-
 // ---- absolute and tolerance
 
+#[tactic(auto, unfolding(chart_rules::specs::Limits::absolute))]
 pub fn absolute(limit: u32, s: ChartSet) -> bool
     requires { (limit ≤ 1000) × SetFits s }
     ensures { result ≡ absolute_of limit s }
 {
-    limit * s.count <= whole::size(chart_sets::sum_of(s))
+    limit * s.count <= s.sum.unsigned_abs()
 }
 
-fn at_or_above(limit: u32, s: ChartSet) -> bool
+// The lower and the upper line, each times the set's count, as the set's sum is compared with them.
+fn lines(limit: u32, s: ChartSet) -> (i32, i32)
     requires { (limit ≤ 1000) × SetFits s }
-    ensures { result ≡ at_or_above limit s }
+    ensures { result ≡ (neg_ℤ (pos (limit * s.count)), pos (limit * s.count)) }
 {
-    whole::at_most(whole::of_u32(limit * s.count), chart_sets::sum_of(s))
+    let upper = (limit * s.count) as i32;
+    (-upper, upper)
 }
 
-fn at_or_below(limit: u32, s: ChartSet) -> bool
-    requires { (limit ≤ 1000) × SetFits s }
-    ensures { result ≡ at_or_below limit s }
+// This set and the one before it, both at or above the upper line, or both at or below the lower.
+#[tactic(auto, unfolding(chart_rules::specs::Limits::tolerance, chart_rules::specs::Limits::at_or_above, chart_rules::specs::Limits::at_or_below))]
+pub fn tolerance(limit: u32, s: ChartSet, past: &[ChartSet]) -> bool
+    requires { (limit ≤ 1000) × (SetFits s × AllFit past.now) }
+    ensures { result ≡ tolerance_of limit s past.now }
 {
-    whole::at_most(
-        chart_sets::sum_of(s),
-        whole::neg(whole::of_u32(limit * s.count)),
-    )
+    let [before, ..] = past else { return false };
+    let (lower, upper) = lines(limit, s);
+    let (lower_before, upper_before) = lines(limit, *before);
+    (upper <= s.sum && upper_before <= before.sum) || (s.sum <= lower && before.sum <= lower_before)
 }
 
-// Both averages at or above the upper line, or both at or below the lower.
-fn both_beyond(limit: u32, s: ChartSet, p: ChartSet) -> bool
-    requires { (limit ≤ 1000) × (SetFits s × SetFits p) }
-    ensures { result ≡ (at_or_above limit s && at_or_above limit p) || (at_or_below limit s && at_or_below limit p) }
+#[tactic(auto, unfolding(chart_rules::specs::Limits::range_tolerance))]
+pub fn range_tolerance(limit: u32, s: ChartSet, past: &[ChartSet]) -> bool
+    ensures { result ≡ range_tolerance limit s past.now }
 {
-    let s_above = at_or_above(limit, s);
-    let p_above = at_or_above(limit, p);
-    let s_below = at_or_below(limit, s);
-    let p_below = at_or_below(limit, p);
-    flags::either(flags::both(s_above, p_above), flags::both(s_below, p_below))
-}
-
-// This set and the one before it, the newest of the held ones.
-pub fn tolerance(limit: u32, s: ChartSet, held: u32, sets: [ChartSet; HELD_SETS]) -> bool
-    requires { (limit ≤ 1000) × (SetFits s × AllFit (take held sets)) }
-    ensures { result ≡ tolerance_of limit s (take held sets) }
-{
-    if held == 0 {
-        return false;
-    }
-    both_beyond(limit, s, sets[0])
-}
-
-pub fn range_tolerance(limit: u32, s: ChartSet, held: u32, sets: [ChartSet; HELD_SETS]) -> bool
-    ensures { result ≡ range_tolerance limit s (take held sets) }
-{
-    if held == 0 {
-        return false;
-    }
-    let before = sets[0];
-    flags::both(limit <= s.range, limit <= before.range)
+    limit <= s.range && past.first().is_some_and(|before| limit <= before.range)
 }

@@ -5,6 +5,7 @@ use Prim.Native.Nat.{ℕ, ◌≤◌}
 use native.Mathlib.Omega.{arith}
 use lib.ListN.{length}
 use Rattle.whole.proofs.PartLaws.{either, size_parts}
+use Rattle.whole.proofs.BoundLaws.{in_parts}
 use Rattle.decimal.specs.Bytes.{space, line_feed}
 use Rattle.decimal.specs.Show.{show, show_signed}
 use Rattle.chart_rules.specs.Lines.{values_of, line_of}
@@ -32,4 +33,4 @@ flags_length v = refl
 pub values_small : (c : Chart) (week : ℕ) (s : ChartSet) → week ≤ 9999 → SetFits s → SmallValues (values_of c week s)
 unfolding values_of
 values_small c week s h f =
-    record { week = omega arith; count = omega (arith, f.five); sum = omega (arith, f.sum, size_parts s.sum, either s.sum); range = omega (arith, f.range) }
+    record { week = omega arith; count = omega (arith, f.five); sum = omega (arith, in_parts f.sum, size_parts s.sum, either s.sum); range = omega (arith, f.range) }

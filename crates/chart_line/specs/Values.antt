@@ -2,7 +2,6 @@
 use Rattle.std.specs.Prelude.{ℕ, ◌<◌, List, [], ◌∷◌, nat_abs}
 use Rattle.decimal.specs.Bytes.{space}
 use Rattle.decimal.specs.Show.{bit}
-use Rattle.chart_rules.specs.declared.ChartSet.{ChartSet}
 use Rattle.chart_rules.specs.declared.Values.{Values}
 
 -- no number has more than five digits
@@ -11,10 +10,6 @@ pub record SmallValues (v : Values) : Type 0 where
   pub count : v.count < 100000
   pub sum : nat_abs v.sum < 100000
   pub range : v.range < 100000
-
--- the set whose line it is
-abbrev pub set_in : Values → ChartSet
-set_in v = record { count = v.count; sum = v.sum; range = v.range }
 
 -- the flags, 1 or 0, each after a space
 unfoldable pub flag_bytes : Values → List ℕ

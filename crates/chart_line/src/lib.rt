@@ -7,44 +7,28 @@ ghost use Rattle.decimal.specs.Put.{Put};
 ghost use Rattle.chart_sets.specs.Fits.{SetFits, AllFit};
 ghost use Rattle.chart_rules.specs.Charts.{past_of};
 ghost use Rattle.chart_rules.specs.Lines.{values_of, line_of};
-ghost use Rattle.chart_line.specs.Values.{set_in, flag_bytes, SmallValues};
+ghost use Rattle.chart_line.specs.Values.{flag_bytes, SmallValues};
 
 use chart_rules::{Chart, ChartSet, Values};
 
 // What the set's output line says.
+#[tactic(auto, using(chart_limits::proofs::Rows::row_small))]
 pub fn values_of(chart: Chart, week: u32, s: ChartSet) -> Values
     requires { SetFits s × AllFit (past_of chart) }
     ensures { result ≡ values_of chart week s }
 {
     let limits = chart_limits::limits_of(chart.row);
-    let held = chart.held;
-    let sets = chart.sets;
-    let al = chart_limits::absolute(limits.al, s);
-    let tl = chart_limits::tolerance(limits.tl, s, held, sets);
-    let run = chart_run::run(limits.run, s, held, sets);
-    let ral = limits.ral <= s.range;
-    let rtl = chart_limits::range_tolerance(limits.rtl, s, held, sets);
+    let past = chart.past();
     Values {
         week,
         count: s.count,
         sum: s.sum,
         range: s.range,
-        al,
-        tl,
-        run,
-        ral,
-        rtl,
-    }
-}
-
-// The set whose line it is.
-pub fn set_in(v: Values) -> ChartSet
-    ensures { result ≡ set_in v }
-{
-    ChartSet {
-        count: v.count,
-        sum: v.sum,
-        range: v.range,
+        al: chart_limits::absolute(limits.al, s),
+        tl: chart_limits::tolerance(limits.tl, s, past),
+        run: chart_run::run(limits.run, s, past),
+        ral: limits.ral <= s.range,
+        rtl: chart_limits::range_tolerance(limits.rtl, s, past),
     }
 }
 

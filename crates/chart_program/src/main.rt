@@ -12,6 +12,7 @@ use std::io::{Read, Write};
 const TEXT_ROOM: usize = MOST_TEXT + 1;
 
 // Reads from the front on, in pieces, to the input's end or the room's: how many bytes it read.
+// A loop of its own: the library's read_to_end needs a heap, and how far a piece goes the input decides.
 fn read_text(input: &mut impl Read, room: &mut [u8]) -> io::Result<usize>
     ensures { IfOk result (λ n. n ≤ length room.new) }
 {
@@ -26,18 +27,10 @@ fn read_text(input: &mut impl Read, room: &mut [u8]) -> io::Result<usize>
     Ok(n)
 }
 
-// Writes the first k bytes; where there are fewer, nothing, and that is an error too.
-fn print_front(to: &mut impl Write, bytes: &[u8], k: usize) -> io::Result<()> {
-    if bytes.len() < k {
-        return Err(io::ErrorKind::InvalidInput.into());
-    }
-    to.write_all(&bytes[..k])
-}
-
 fn main(rt: HostRuntime) -> io::Result<()> {
     let mut text = [0u8; TEXT_ROOM];
     let n = read_text(&mut rt.stdin(), &mut text)?;
     let mut out = [0u8; PROGRAM_ROOM];
     let k = text_print::print_text(&text[..n], &mut out);
-    print_front(&mut rt.stdout(), &out, k)
+    rt.stdout().write_all(&out[..k])
 }

@@ -8,7 +8,7 @@ use lib.IntN.{ℤ, pos}
 use lib.Signed.{lt_z}
 use lib.Dec.{eqb, leb, ltb}
 use borrow.Author.Tests.{leb-false, ltb-false, eqb-false}
-use Rattle.whole.specs.Parts.{Within}
+use Rattle.whole.proofs.Parts.{Within}
 use Rattle.whole.proofs.PartLaws.{less_no, either}
 use Rattle.whole.proofs.ListLaws.{Each}
 use Rattle.whole.proofs.Tests.{or_none}

@@ -11,15 +11,12 @@ use borrow.Author.Tests.{eq-eqb, eqb-true, eqb-false, ltb-true}
 use Rattle.decimal.specs.Bytes.{space, line_feed}
 use Rattle.decimal.specs.Show.{show}
 use Rattle.decimal.proofs.Show.{show_small, show_step}
-use Rattle.chart_rules.specs.TextLines.{is_digit, digits, number, number_at, begins, ended, field, then, line_at, value_line, FiveDigits}
+use Rattle.chart_rules.specs.TextLines.{is_digit, digits, number, number_at, begins, ended, field, Number, LineRead, then, line_at, value_line, FiveDigits}
 use Rattle.chart_rules.specs.Laws.{LinesExact}
-use Rattle.chart_rules.specs.declared.Number.{Number}
-use Rattle.chart_rules.specs.declared.Number.TheVariants.{Value, Bad}
 use Rattle.chart_rules.specs.declared.ValueLine.{ValueLine}
-use Rattle.chart_rules.specs.declared.LineRead.{LineRead}
-use Rattle.chart_rules.specs.declared.LineRead.TheVariants as L
 use Rattle.chart_rules.proofs.Numbers.{digit_range}
 use Rattle.chart_rules.proofs.RoundTrip.{read_show}
+use Rattle.std.specs.Prelude.{Some, None}
 
 -- ---- what is written is read
 
@@ -32,17 +29,15 @@ module _ (text : List ℕ) (e at n : ℕ) (rest : List ℕ) (p : drop at text �
   next_is : drop (at + length (show n) + 1) text ≡ rest
   next_is = sym (drop-drop 1 (at + length (show n)) text) ∙ ap (drop 1) behind
 
-  field_show : n < 100000 → is_digit e ≡ false → field text e at ≡ Value n (at + length (show n) + 1)
+  field_show : n < 100000 → is_digit e ≡ false → field text e at ≡ Some (n, at + length (show n) + 1)
   unfolding field number_at ended
   field_show small stop =
       rw (p, read_show n at (e ∷ rest) small stop, behind, eq-eqb e e refl)
 
 no_space : is_digit space ≡ false
-unfolding is_digit
 no_space = refl
 
 no_feed : is_digit line_feed ≡ false
-unfolding is_digit
 no_feed = refl
 
 -- a piece of a line stands in front of the rest of the text
@@ -61,7 +56,7 @@ unfolding value_line
 line_front v rest = simp append_assoc
 
 -- what is written is read
-line_show : (text : List ℕ) (at : ℕ) (v : ValueLine) (rest : List ℕ) → drop at text ≡ value_line v ++ rest → FiveDigits v → line_at text at ≡ L.Values v (at + length (value_line v))
+line_show : (text : List ℕ) (at : ℕ) (v : ValueLine) (rest : List ℕ) → drop at text ≡ value_line v ++ rest → FiveDigits v → line_at text at ≡ Some (v, at + length (value_line v))
 unfolding line_at then value_line FiveDigits
 line_show text at v rest p s =
     let w = show v.week in
@@ -78,14 +73,14 @@ line_show text at v rest p s =
       field_show text space i v.sample _ p₂ s.1 no_space,
       field_show text space j v.original _ p₃ s.2 no_space,
       field_show text line_feed k v.monitor _ p₄ s.3 no_feed,
-    ) (ap (λ (n : ℕ). L.Values v n) e)
+    ) (ap (λ (n : ℕ). Some (v, n)) e)
 
 -- ---- what is read was written
 
 -- cs is a number as it is written, which is read, and more
 Reads : List ℕ → ℕ → Number → Type 0
-Reads cs i (Value n j) = (n < 100000) × (j ≡ i + length (show n)) × ((rest : List ℕ) × (cs ≡ show n ++ rest))
-Reads cs i Bad = Unit {0}
+Reads cs i (Some (n, j)) = (n < 100000) × (j ≡ i + length (show n)) × ((rest : List ℕ) × (cs ≡ show n ++ rest))
+Reads cs i None = Unit {0}
 
 if_case : (P : Number → Type 0) (b : Bool) (x y : Number) → (b ≡ true → P x) → (b ≡ false → P y) → P (cond b x y)
 if_case P true x y p q = p refl
@@ -139,12 +134,12 @@ begins_is e (c ∷ l) b = ap (λ (x : ℕ). x ∷ l) (eqb-true c e b)
 
 -- the text has at position at a number as it is written, and e behind it
 Ends : List ℕ → ℕ → ℕ → Number → Type 0
-Ends text e at (Value n j) = (n < 100000) × (j ≡ at + length (show n) + 1) × (drop at text ≡ show n ++ (e ∷ drop j text))
-Ends text e at Bad = Unit {0}
+Ends text e at (Some (n, j)) = (n < 100000) × (j ≡ at + length (show n) + 1) × (drop at text ≡ show n ++ (e ∷ drop j text))
+Ends text e at None = Unit {0}
 
 ended_sound : (text : List ℕ) (e at : ℕ) (x : Number) → Reads (drop at text) at x → Ends text e at (ended text e x)
 unfolding Reads Ends ended
-ended_sound text e at (Value n i) (h, q, (rest, p)) =
+ended_sound text e at (Some (n, i)) (h, q, (rest, p)) =
     if_case (Ends text e at) (begins e (drop i text)) _ _
     (λ b.
     let here : drop i text ≡ rest =
@@ -153,29 +148,29 @@ ended_sound text e at (Value n i) (h, q, (rest, p)) =
     sym here ∙ begins_is e (drop i text) b ∙ ap (λ (l : List ℕ). e ∷ l) (drop-drop 1 i text) in
     (h, omega arith, p ∙ ap (λ (l : List ℕ). show n ++ l) split))
     (λ b. tt)
-ended_sound text e at Bad r = tt
+ended_sound text e at None r = tt
 
 field_sound : (text : List ℕ) (e at : ℕ) → Ends text e at (field text e at)
 unfolding field number_at
 field_sound text e at = ended_sound text e at (number at (drop at text)) (number_sound at (drop at text))
 
 then_sound : (P : LineRead → Type 0) (text : List ℕ) (e at : ℕ) (x : Number) (next : ℕ → ℕ → LineRead)
-    → P L.Bad → Ends text e at x → ((n i : ℕ) → Ends text e at (Value n i) → P (next n i)) → P (then x next)
+    → P None → Ends text e at x → ((n i : ℕ) → Ends text e at (Some (n, i)) → P (next n i)) → P (then x next)
 unfolding then
-then_sound P text e at (Value n i) next bad r f = f n i r
-then_sound P text e at Bad next bad r f = bad
+then_sound P text e at (Some (n, i)) next bad r f = f n i r
+then_sound P text e at None next bad r f = bad
 
 -- the text has the line at position at, with at most five digits to a number, and next is the position behind it
 unfoldable pub Written : List ℕ → ℕ → LineRead → Type 0
-Written text at (L.Values v next) = FiveDigits v × (next ≡ at + length (value_line v)) × (drop at text ≡ value_line v ++ drop next text)
-Written text at L.Bad = Unit {0}
+Written text at (Some (v, next)) = FiveDigits v × (next ≡ at + length (value_line v)) × (drop at text ≡ value_line v ++ drop next text)
+Written text at None = Unit {0}
 
-bad : (text : List ℕ) (at : ℕ) → Written text at L.Bad
+bad : (text : List ℕ) (at : ℕ) → Written text at None
 unfolding Written
 bad text at = tt
 
-line_whole : (text : List ℕ) (at w s o m i j k next : ℕ) → Ends text space at (Value w i) → Ends text space i (Value s j) → Ends text space j (Value o k) → Ends text line_feed k (Value m next)
-    → Written text at (L.Values (record { week = w; sample = s; original = o; monitor = m }) next)
+line_whole : (text : List ℕ) (at w s o m i j k next : ℕ) → Ends text space at (Some (w, i)) → Ends text space i (Some (s, j)) → Ends text space j (Some (o, k)) → Ends text line_feed k (Some (m, next))
+    → Written text at (Some ((record { week = w; sample = s; original = o; monitor = m }), next))
 unfolding Ends Written FiveDigits
 line_whole text at w s o m i j k next p₁ p₂ p₃ p₄ =
     let v : ValueLine = record { week = w; sample = s; original = o; monitor = m } in (
@@ -196,7 +191,7 @@ line_written text at =
     line_whole text at w s o m i j k next p₁ p₂ p₃ p₄))))
 
 -- what is read was written
-line_read : (text : List ℕ) (at next : ℕ) (v : ValueLine) → line_at text at ≡ L.Values v next
+line_read : (text : List ℕ) (at next : ℕ) (v : ValueLine) → line_at text at ≡ Some (v, next)
     → FiveDigits v × (next ≡ at + length (value_line v)) × (drop at text ≡ value_line v ++ drop next text)
 unfolding Written
 line_read text at next v e = rw e at (line_written text at)

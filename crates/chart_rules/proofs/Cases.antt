@@ -11,7 +11,7 @@ use Rattle.chart_rules.specs.Run.{one_side, sixtieths, run_by, run}
 use Rattle.chart_rules.specs.Lines.{values_of, line_of}
 use Rattle.chart_rules.specs.Calls.{decided, accepted, result_of, bytes_of}
 use Rattle.chart_rules.specs.Cases.{runs, week26, line26, texts}
-use Rattle.chart_rules.specs.TextLines.{is_digit, digits, number, number_at, ended, field, then, line_at, starts_with}
+use Rattle.chart_rules.specs.TextLines.{digits, number, number_at, ended, field, then, line_at}
 use Rattle.chart_rules.specs.Judging.{is_next, is_start, lines_from, lines_at}
 use Rattle.chart_rules.specs.Gathering.{finished, closed, kept, sets_of}
 use Rattle.chart_rules.specs.Output.{chart_all, text_sets, text_lines, output_of, answer_of}
@@ -28,5 +28,5 @@ line_26 = refl
 
 -- the worked texts print what they say
 pub texts_hold : map (λ c. c.gives) texts ≡ map (λ c. c.says) texts
-unfolding shown show show_signed is_digit digits number number_at ended field then line_at starts_with bad_size outside bad_result set_of sound_set limits_of absolute at_or_above at_or_below tolerance range_tolerance one_side sixtieths run_by run sound next_chart values_of line_of bad_week refusal_of decided accepted result_of bytes_of lines_from lines_at is_next is_start finished closed kept sets_of chart_all text_sets text_lines output_of answer_of refusal_bytes spoken printed texts
+unfolding shown show show_signed digits number number_at ended field then line_at bad_size outside bad_result set_of sound_set limits_of absolute at_or_above at_or_below tolerance range_tolerance one_side sixtieths run_by run sound next_chart values_of line_of bad_week refusal_of decided accepted result_of bytes_of lines_from lines_at is_next is_start finished closed kept sets_of chart_all text_sets text_lines output_of answer_of refusal_bytes spoken printed texts
 texts_hold = refl

@@ -1,29 +1,26 @@
 -- A chart text and its numbers determine each other: over the lines of the text, from what `lines` says of each.
 use mathlib.Core.Path.{◌≡◌, refl, sym, ap, ◌∙◌, subst}
 use mathlib.Core.Logic.{⊎_elim}
-use mathlib.Core.Bool.{true, false≢true}
+use mathlib.Core.Bool.{true}
 use mathlib.Core.List.{List, [], ◌∷◌, ◌++◌}
 use Prim.Native.Nat.{ℕ, zero, suc, ◌+◌, ◌≤◌, ◌<◌}
 use native.Mathlib.Omega.{arith}
 use lib.ListN.{length, drop, length-append, drop_of_length-le}
 use lib.Seq.{drop-drop, drop-append_seam}
-use lib.Dec.{eqb}
-use borrow.Author.Tests.{eqb-true}
 use Rattle.decimal.proofs.Show.{lt_or_ge}
-use Rattle.chart_rules.specs.TextLines.{line_at, value_line, names_line, starts_with}
+use Rattle.std.proofs.lemmas.Slice.Eq.{starts_is}
+use Rattle.std.proofs.lemmas.Bool.Decides.{Decides-eqb}
+use Rattle.chart_rules.specs.TextLines.{LineRead, line_at, value_line, names_line, starts_with}
 use Rattle.chart_rules.specs.Judging.{lines_at, value_lines}
 use Rattle.chart_rules.specs.Fine.{GoodLines}
 use Rattle.chart_rules.specs.Output.{answer_of}
 use Rattle.chart_rules.specs.Laws.{lines_text, text_of, lines_read, AllFive, TextExact}
 use Rattle.chart_rules.specs.declared.ValueLine.{ValueLine}
-use Rattle.chart_rules.specs.declared.LineRead.{LineRead}
-use Rattle.chart_rules.specs.declared.LineRead.TheVariants.{Values, Bad}
-use Rattle.chart_rules.specs.declared.TextAnswer.TheVariants.{Written}
-use Rattle.chart_rules.proofs.Numbers.{cond_true}
 use Rattle.chart_rules.proofs.Canonical.{lines_exact, some_bytes}
 use Rattle.chart_rules.proofs.TextLines.{lines_end, lines_bad, lines_more}
 use Rattle.chart_rules.proofs.Judging.{fine_text}
 use Rattle.chart_rules.proofs.Answering.{written_fine}
+use Rattle.std.specs.Prelude.{Option, Some, None, Ok}
 
 -- ---- what is written is read
 drop_nil : (n : ℕ) → drop {A = ℕ} n [] ≡ []
@@ -63,21 +60,21 @@ none_written : lines_text (lines_read []) ≡ []
 unfolding lines_text lines_read
 none_written = refl
 
-one_written : (v : ValueLine) (next : ℕ) (ls : List LineRead) → lines_text (lines_read (Values v next ∷ ls)) ≡ value_line v ++ lines_text (lines_read ls)
+one_written : (v : ValueLine) (ls : List (Option ValueLine)) → lines_text (lines_read (Some v ∷ ls)) ≡ value_line v ++ lines_text (lines_read ls)
 unfolding lines_text lines_read
-one_written v next ls = refl
+one_written v ls = refl
 
-good_bad : (week sample : ℕ) (ls : List LineRead) → GoodLines week sample (Bad ∷ ls) → ⊥
+good_bad : (week sample : ℕ) (ls : List (Option ValueLine)) → GoodLines week sample (None ∷ ls) → ⊥
 unfolding GoodLines
 good_bad week sample ls g = g
 
-good_rest : (week sample : ℕ) (v : ValueLine) (next : ℕ) (ls : List LineRead) → GoodLines week sample (Values v next ∷ ls) → GoodLines v.week v.sample ls
+good_rest : (week sample : ℕ) (v : ValueLine) (ls : List (Option ValueLine)) → GoodLines week sample (Some v ∷ ls) → GoodLines v.week v.sample ls
 unfolding GoodLines
-good_rest week sample v next ls g = g.1
+good_rest week sample v ls g = g.1
 
 -- behind the end nothing is left
 written_end : (text : List ℕ) (at : ℕ) → length text ≤ at → lines_text (lines_read (lines_at text at)) ≡ drop at text
-written_end text at h = ap (λ (ls : List LineRead). lines_text (lines_read ls)) (lines_end text at h) ∙ none_written ∙ sym (drop_of_length-le text h)
+written_end text at h = ap (λ (ls : List (Option ValueLine)). lines_text (lines_read ls)) (lines_end text at h) ∙ none_written ∙ sym (drop_of_length-le text h)
 
 written_from : (k : ℕ) (text : List ℕ) (at week sample : ℕ) → length text ≤ at + k → GoodLines week sample (lines_at text at) → lines_text (lines_read (lines_at text at)) ≡ drop at text
 written_from zero text at week sample h g = written_end text at (omega arith)
@@ -86,30 +83,25 @@ written_from (suc k) text at week sample h g = ⊎_elim (λ i. line_from i (line
     line_from : at < length text → (x : LineRead) → line_at text at ≡ x
         → ((next w s : ℕ) → length text ≤ next + k → GoodLines w s (lines_at text next) → lines_text (lines_read (lines_at text next)) ≡ drop next text)
         → lines_text (lines_read (lines_at text at)) ≡ drop at text
-    line_from i Bad e again = absurd (good_bad week sample [] (subst (GoodLines week sample) (lines_bad text at i e) g))
-    line_from i (Values v next) e again =
+    line_from i None e again = absurd (good_bad week sample [] (subst (GoodLines week sample) (lines_bad text at i e) g))
+    line_from i (Some (v, next)) e again =
         let p = lines_exact.read_written text at next v e in
         let more = lines_more text at v next i e in
-        let rest = good_rest week sample v next (lines_at text next) (subst (GoodLines week sample) more g) in
-        ap (λ (ls : List LineRead). lines_text (lines_read ls)) more
-        ∙ one_written v next (lines_at text next)
+        let rest = good_rest week sample v (lines_at text next) (subst (GoodLines week sample) more g) in
+        ap (λ (ls : List (Option ValueLine)). lines_text (lines_read ls)) more
+        ∙ one_written v (lines_at text next)
         ∙ ap (λ (l : List ℕ). value_line v ++ l) (again next v.week v.sample (omega (arith, p.1, some_bytes v)) rest)
         ∙ sym p.2
 
-starts_is : (hs cs : List ℕ) → starts_with hs cs ≡ true → hs ++ drop (length hs) cs ≡ cs
-unfolding starts_with
-starts_is [] cs e = refl
-starts_is (h ∷ hs) [] e = absurd (false≢true e)
-starts_is (h ∷ hs) (c ∷ cs) e =
-    let p = cond_true (eqb c h) (starts_with hs cs) e in
-    (λ i. sym (eqb-true c h p.0) i ∷ starts_is hs cs p.1 i)
+begins : (hs cs : List ℕ) → starts_with hs cs ≡ true → hs ++ drop (length hs) cs ≡ cs
+begins hs cs e = sym ((starts_is Decides-eqb cs hs true (sym e)).0 refl)
 
-text_written : (text : List ℕ) (room n : ℕ) → answer_of text room ≡ Written n → text_of (lines_read (value_lines text)) ≡ text
+text_written : (text : List ℕ) (room n : ℕ) → answer_of text room ≡ Ok n → text_of (lines_read (value_lines text)) ≡ text
 unfolding text_of
 text_written text room n e =
     let f = fine_text text (written_fine text room n e) in
     ap (λ (l : List ℕ). names_line ++ l) (written_from (length text) text (length names_line) 0 0 (omega arith) f.lines)
-    ∙ starts_is names_line text f.names
+    ∙ begins names_line text f.names
 
 pub text_exact : TextExact
 text_exact = record { written_read = text_read; read_written = text_written }

@@ -3,19 +3,17 @@ use mathlib.Core.Path.{◌≡◌, refl}
 use mathlib.Core.Bool.{Bool, true, false, cond}
 use mathlib.Core.List.{List}
 use Prim.Native.Nat.{ℕ, ◌≤◌}
-use native.Mathlib.Omega.{arith}
 use lib.IntN.{ℤ}
 use lib.ListN.{length}
 use borrow.Author.Tests.{ltb-false, not-false}
+use Rattle.std.specs.Prelude.{Result, Ok, Err}
 use Rattle.chart_rules.specs.Refusals.{bad_week, bad_size, bad_result, refusal_of}
 use Rattle.chart_rules.specs.Charts.{sound}
 use Rattle.chart_rules.specs.declared.Chart.{Chart}
 use Rattle.chart_rules.specs.declared.Refusal.{Refusal}
-use Rattle.chart_rules.specs.declared.Judgement.{Judgement}
-use Rattle.chart_rules.specs.declared.Judgement.TheVariants as J
 
-fine_head : (b : Bool) (r : Refusal) (rest : Judgement) → cond b (J.Refused r) rest ≡ J.Fine → (b ≡ false) × (rest ≡ J.Fine)
-fine_head true r rest e = let z : ◌≡◌ {A = ℕ} 0 1 = cc in absurd (omega arith)
+fine_head : (b : Bool) (r : Refusal) (rest : Result (Unit {0}) Refusal) → cond b (Err r) rest ≡ Ok tt → (b ≡ false) × (rest ≡ Ok tt)
+fine_head true r rest e = absurd cc
 fine_head false r rest e = (refl, e)
 
 pub record FineCall (c : Chart) (week : ℕ) (numbers : List ℤ) (room : ℕ) : Type 0 where
@@ -25,7 +23,7 @@ pub record FineCall (c : Chart) (week : ℕ) (numbers : List ℤ) (room : ℕ) :
   pub results : bad_result numbers ≡ false
   pub place : 40 ≤ room
 
-pub fine_call : (c : Chart) (week : ℕ) (numbers : List ℤ) (room : ℕ) → refusal_of c week numbers room ≡ J.Fine → FineCall c week numbers room
+pub fine_call : (c : Chart) (week : ℕ) (numbers : List ℤ) (room : ℕ) → refusal_of c week numbers room ≡ Ok tt → FineCall c week numbers room
 unfolding refusal_of
 fine_call c week numbers room e =
     let a = fine_head _ _ _ e in

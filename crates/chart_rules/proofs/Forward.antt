@@ -8,22 +8,19 @@ use native.Mathlib.Omega.{arith}
 use lib.ListN.{drop}
 use lib.Dec.{ltb, eqb}
 use Rattle.decimal.specs.Bytes.{space, line_feed}
-use Rattle.chart_rules.specs.TextLines.{is_digit, digits, number, number_at, begins, ended, field, then, line_at}
-use Rattle.chart_rules.specs.declared.Number.{Number}
-use Rattle.chart_rules.specs.declared.Number.TheVariants.{Value, Bad}
+use Rattle.chart_rules.specs.TextLines.{is_digit, digits, number, number_at, begins, ended, field, Number, LineRead, then, line_at}
 use Rattle.chart_rules.specs.declared.ValueLine.{ValueLine}
-use Rattle.chart_rules.specs.declared.LineRead.{LineRead}
-use Rattle.chart_rules.specs.declared.LineRead.TheVariants as L
+use Rattle.std.specs.Prelude.{Some, None}
 
 -- the position of what was read is at least i; nothing is said where nothing was read
 Past : ℕ → Number → Type 0
-Past i (Value n j) = i ≤ j
-Past i Bad = Unit {0}
+Past i (Some (n, j)) = i ≤ j
+Past i None = Unit {0}
 
 past_less : (i k : ℕ) (x : Number) → i ≤ k → Past k x → Past i x
 unfolding Past
-past_less i k (Value n j) h p = omega arith
-past_less i k Bad h p = tt
+past_less i k (Some (n, j)) h p = omega arith
+past_less i k None h p = tt
 
 past_if : (i : ℕ) (b : Bool) (x y : Number) → Past i x → Past i y → Past i (cond b x y)
 past_if i true x y p q = p
@@ -46,8 +43,8 @@ number_past i (c ∷ cs) =
 
 ended_past : (text : List ℕ) (e i : ℕ) (x : Number) → Past i x → Past i (ended text e x)
 unfolding Past ended
-ended_past text e i (Value n j) p = past_if i (begins e (drop j text)) _ _ (omega arith) tt
-ended_past text e i Bad p = tt
+ended_past text e i (Some (n, j)) p = past_if i (begins e (drop j text)) _ _ (omega arith) tt
+ended_past text e i None p = tt
 
 field_past : (text : List ℕ) (e at : ℕ) → Past (at + 1) (field text e at)
 unfolding field number_at
@@ -55,13 +52,13 @@ field_past text e at = ended_past text e (at + 1) (number at (drop at text)) (nu
 
 -- the same of a line
 Past_line : ℕ → LineRead → Type 0
-Past_line i (L.Values v next) = i ≤ next
-Past_line i L.Bad = Unit {0}
+Past_line i (Some (v, next)) = i ≤ next
+Past_line i None = Unit {0}
 
 then_past : (at : ℕ) (x : Number) (next : ℕ → ℕ → LineRead) → Past (at + 1) x → ((n i : ℕ) → at < i → Past_line (at + 1) (next n i)) → Past_line (at + 1) (then x next)
 unfolding Past Past_line then
-then_past at (Value n i) next p q = q n i (omega arith)
-then_past at Bad next p q = tt
+then_past at (Some (n, i)) next p q = q n i (omega arith)
+then_past at None next p q = tt
 
 -- a later field ends behind the line's start too
 later : (text : List ℕ) (e at i : ℕ) → at < i → Past (at + 1) (field text e i)
@@ -76,6 +73,6 @@ line_past text at =
     then_past at _ _ (later text line_feed at k hk) (λ m next hn. add-one-le hn))))
 
 -- a line that was read ends behind where it began
-pub line_forward : (text : List ℕ) (at next : ℕ) (v : ValueLine) → line_at text at ≡ L.Values v next → at < next
+pub line_forward : (text : List ℕ) (at next : ℕ) (v : ValueLine) → line_at text at ≡ Some (v, next) → at < next
 unfolding Past_line
 line_forward text at next v e = let p = rw e at (line_past text at) in omega arith

@@ -12,31 +12,26 @@ use borrow.Author.Tests.{eqb-true, eqb-false, lt-leb, le-ltb}
 use Rattle.whole.specs.Lists.{Check}
 use Rattle.whole.proofs.Tests.{or_none}
 use Rattle.whole.proofs.ListLaws.{by_test}
+use Rattle.std.specs.Prelude.{Ok}
 use Rattle.chart_rules.specs.Refusals.{bad_week, bad_size, outside, bad_result, refusal_of}
 use Rattle.chart_rules.specs.Calls.{opening, open_of, decided, accepted, result_of, chart_says}
 use Rattle.chart_rules.specs.Charts.{sound, fresh_chart, next_chart}
-use Rattle.chart_rules.specs.Judging.{InLine, first_ruling, value_lines, lines_checks, text_checks, starts, verdict, judged, pair, text_number}
+use Rattle.chart_rules.specs.Judging.{first_ruling, value_lines, lines_checks, text_checks, starts, verdict, judged, pair, text_number}
 use Rattle.chart_rules.specs.Fine.{FineLine, GoodLines}
 use Rattle.chart_rules.specs.Gathering.{Gathered, none, joined, finished, closed, kept, sets_of}
 use Rattle.chart_rules.specs.Output.{output_names, text_sets, text_lines, output_of, answer_of, text_says}
 use Rattle.chart_rules.specs.Laws.{AllCharted, set_results, line_results, lines_read, GoodCharted, program_room, ProgramFits}
 use Rattle.chart_rules.specs.declared.ValueLine.{ValueLine}
-use Rattle.chart_rules.specs.declared.LineRead.{LineRead}
-use Rattle.chart_rules.specs.declared.LineRead.TheVariants.{Values, Bad}
 use Rattle.chart_rules.specs.declared.Chart.{Chart}
-use Rattle.chart_rules.specs.declared.Judgement.TheVariants as J
-use Rattle.chart_rules.specs.declared.TextRefusal.{TextRefusal}
-use Rattle.chart_rules.specs.declared.Ruling.{Ruling}
-use Rattle.chart_rules.specs.declared.Ruling.TheVariants as R
-use Rattle.chart_rules.specs.declared.TextVerdict.TheVariants as Ver
-use Rattle.chart_rules.specs.declared.TextAnswer.{TextAnswer}
-use Rattle.chart_rules.specs.declared.TextAnswer.TheVariants.{Written, Refused}
 use Rattle.chart_rules.proofs.Calls.{stays_sound}
 use Rattle.chart_rules.proofs.Rulings.{fine_next, fine_start, fine_first}
 use Rattle.chart_rules.proofs.Judging.{fine_text, one_or_none, not_one}
 use Rattle.chart_rules.proofs.Gathering.{finished_some, closed_start, closed_next, kept_start, kept_next}
 use Rattle.chart_rules.proofs.Output.{first_sets, text_count, text_short}
 use Rattle.chart_rules.proofs.Answering.{refused_answer, full_answer, written_fine, written_length}
+use Rattle.std.specs.Prelude.{Option, Some, None}
+use Rattle.std.specs.Prelude.{Result, Ok, Err}
+use Rattle.chart_rules.specs.declared.RefusedText.{RefusedText}
 
 -- sample 1, or not
 one_or : (n : ℕ) (P : Type 0) → (n ≡ 1 → P) → ((n ≡ 1 → ⊥) → P) → P
@@ -52,7 +47,7 @@ record Ready (c : Chart) (s : Gathered) : Type 0 where
   results : bad_result s.numbers ≡ false
   time : bad_week c.week s.week ≡ false
 
-accepts : (c : Chart) (s : Gathered) → sound c ≡ true → Ready c s → refusal_of c s.week s.numbers 40 ≡ J.Fine
+accepts : (c : Chart) (s : Gathered) → sound c ≡ true → Ready c s → refusal_of c s.week s.numbers 40 ≡ Ok tt
 unfolding refusal_of
 accepts c s e r = rw (e, r.time, r.size, r.results)
 
@@ -91,12 +86,12 @@ first_ready : (c : Chart) (week sample : ℕ) (v : ValueLine) → c.week < v.wee
 first_ready c week sample v h l f =
     record { size = size_ok 1 (omega arith) (omega arith); results = results_ok [] v no_results f.results; time = week_ok c.week v.week h l }
 
-charted_from : (c : Chart) (s : Gathered) (sample : ℕ) (ls : List LineRead) → sound c ≡ true → Ready c s → 1 ≤ sample → length s.numbers ≡ 2 * sample
+charted_from : (c : Chart) (s : Gathered) (sample : ℕ) (ls : List (Option ValueLine)) → sound c ≡ true → Ready c s → 1 ≤ sample → length s.numbers ≡ 2 * sample
     → GoodLines s.week sample ls → AllCharted c (sets_of s ls)
 unfolding sets_of AllCharted GoodLines
 charted_from c s sample [] e r h n g = rw (finished_some s (omega arith)) (accepted_says c s e r, tt)
-charted_from c s sample (Bad ∷ ls) e r h n g = absurd g
-charted_from c s sample (Values v next ∷ ls) e r h n g =
+charted_from c s sample (None ∷ ls) e r h n g = absurd g
+charted_from c s sample (Some v ∷ ls) e r h n g =
     let c' = (result_of c s.week s.numbers 40).chart in
     let fine = g.0 in
     one_or v.sample _
@@ -124,21 +119,21 @@ none_empty : sets_of none [] ≡ []
 unfolding sets_of finished
 none_empty = refl
 
-charted_lines : (c : Chart) (ls : List LineRead) → sound c ≡ true → c.week ≡ 0 → GoodLines 0 0 ls → AllCharted c (sets_of none ls)
+charted_lines : (c : Chart) (ls : List (Option ValueLine)) → sound c ≡ true → c.week ≡ 0 → GoodLines 0 0 ls → AllCharted c (sets_of none ls)
 unfolding GoodLines AllCharted
 charted_lines c [] e z g = rw none_empty tt
-charted_lines c (Bad ∷ ls) e z g = absurd g
-charted_lines c (Values v next ∷ ls) e z g =
+charted_lines c (None ∷ ls) e z g = absurd g
+charted_lines c (Some v ∷ ls) e z g =
     let one = fine_first 0 v g.0 in
     let w = fine_start 0 0 v g.0 one in
-    rw (first_sets v next ls one)
+    rw (first_sets v ls one)
     (charted_from c (joined none v) v.sample ls e (first_ready c 0 0 v (omega (arith, w.0)) w.1 g.0) (omega arith) (omega arith) g.1)
 
 fresh_sound : sound (fresh_chart 0) ≡ true
 unfolding open_of opening
 fresh_sound = stays_sound.opened 0
 
-good_accepted : (text : List ℕ) (room n : ℕ) → answer_of text room ≡ Written n → AllCharted (fresh_chart 0) (text_sets text)
+good_accepted : (text : List ℕ) (room n : ℕ) → answer_of text room ≡ Ok n → AllCharted (fresh_chart 0) (text_sets text)
 unfolding text_sets
 good_accepted text room n e = charted_lines (fresh_chart 0) (value_lines text) fresh_sound refl (fine_text text (written_fine text room n e)).lines
 
@@ -174,11 +169,11 @@ split s v =
     (λ one. rw (closed_start s v one, kept_start s v one) (append-nil (set_results (finished s)) ∙ finished_results s))
     (λ other. rw (closed_next s v other, kept_next s v other) (none_first s))
 
-complete_from : (s : Gathered) (ls : List LineRead) → set_results (sets_of s ls) ≡ s.numbers ++ line_results (lines_read ls)
+complete_from : (s : Gathered) (ls : List (Option ValueLine)) → set_results (sets_of s ls) ≡ s.numbers ++ line_results (lines_read ls)
 unfolding sets_of line_results lines_read
 complete_from s [] = finished_results s ∙ sym (append-nil s.numbers)
-complete_from s (Bad ∷ ls) = finished_results s ∙ sym (append-nil s.numbers)
-complete_from s (Values v next ∷ ls) =
+complete_from s (None ∷ ls) = finished_results s ∙ sym (append-nil s.numbers)
+complete_from s (Some v ∷ ls) =
     let rest = line_results (lines_read ls) in
     let k = (kept s v).numbers in
     results_append (closed s v) (sets_of (joined (kept s v) v) ls)
@@ -196,42 +191,42 @@ good_charted = record { accepted = good_accepted; complete = good_complete }
 -- ---- the program's buffer
 
 -- weeks rise with every set that starts
-few : (week sample : ℕ) (ls : List LineRead) → week ≤ 9999 → GoodLines week sample ls → starts ls + week ≤ 9999
+few : (week sample : ℕ) (ls : List (Option ValueLine)) → week ≤ 9999 → GoodLines week sample ls → starts ls + week ≤ 9999
 unfolding starts GoodLines
 few week sample [] h g = omega arith
-few week sample (Bad ∷ ls) h g = absurd g
-few week sample (Values v next ∷ ls) h g =
+few week sample (None ∷ ls) h g = absurd g
+few week sample (Some v ∷ ls) h g =
     one_or v.sample _
     (λ one. let w = fine_start week sample v g.0 one in omega (arith, one_or_none v.sample, w.0, few v.week v.sample ls w.1 g.1))
     (λ other. let w = (fine_next week sample v g.0 other).2 in omega (arith, not_one v.sample other, few v.week v.sample ls (omega arith) g.1))
 
 -- no check of a text by itself has number 22
-NotShort : Ruling → Type 0
-NotShort R.Fine = Unit {0}
-NotShort (R.Refused r line) = text_number r < 22
+NotShort : Result (Unit {0}) RefusedText → Type 0
+NotShort (Ok fine) = Unit {0}
+NotShort (Err r) = text_number r.refusal < 22
 
-AllBelow : List (Check InLine) → Type 0
+AllBelow : List (Check RefusedText) → Type 0
 AllBelow [] = Unit {0}
 AllBelow (c ∷ cs) = (text_number c.answer.refusal < 22) × AllBelow cs
 
-below_first : (cs : List (Check InLine)) → AllBelow cs → NotShort (first_ruling cs)
+below_first : (cs : List (Check RefusedText)) → AllBelow cs → NotShort (first_ruling cs)
 unfolding NotShort AllBelow
 below_first [] a = tt
 below_first (c ∷ cs) a =
-    by_test c.applies (λ t. NotShort (cond t (R.Refused c.answer.refusal c.answer.line) (first_ruling cs))) (λ e. a.0) (λ e. below_first cs a.1)
+    by_test c.applies (λ t. NotShort (cond t (Err c.answer) (first_ruling cs))) (λ e. a.0) (λ e. below_first cs a.1)
 
-lines_below : (week sample line : ℕ) (ls : List LineRead) → AllBelow (lines_checks week sample line ls)
+lines_below : (week sample line : ℕ) (ls : List (Option ValueLine)) → AllBelow (lines_checks week sample line ls)
 unfolding AllBelow
 lines_below week sample line [] = tt
-lines_below week sample line (Bad ∷ ls) = (omega arith, tt)
-lines_below week sample line (Values v next ∷ ls) = (omega arith, (omega arith, (omega arith, lines_below v.week v.sample (line + 1) ls)))
+lines_below week sample line (None ∷ ls) = (omega arith, tt)
+lines_below week sample line (Some v ∷ ls) = (omega arith, (omega arith, (omega arith, lines_below v.week v.sample (line + 1) ls)))
 
 text_below : (text : List ℕ) → AllBelow (text_checks text)
 unfolding AllBelow
 text_below text = (omega arith, (omega arith, lines_below 0 0 2 (value_lines text)))
 
 -- the output of a text that isn't refused by itself
-short_enough : (text : List ℕ) → first_ruling (text_checks text) ≡ R.Fine → length (output_of text) ≤ program_room
+short_enough : (text : List ℕ) → first_ruling (text_checks text) ≡ Ok tt → length (output_of text) ≤ program_room
 unfolding output_of
 short_enough text e =
     let g = (fine_text text e).lines in
@@ -239,20 +234,20 @@ short_enough text e =
     omega (arith, length-append output_names (text_lines text), text_short text, text_count text g)
 
 -- the two ways of a text in the program's buffer
-text_cases : (text : List ℕ) (P : TextAnswer → Type 0) → ((r : TextRefusal) (line : ℕ) → text_number r < 22 → P (Refused r line))
-    → P (Written (length (output_of text))) → P (answer_of text program_room)
+text_cases : (text : List ℕ) (P : Result ℕ RefusedText → Type 0) → ((r : RefusedText) → text_number r.refusal < 22 → P (Err r))
+    → P (Ok (length (output_of text))) → P (answer_of text program_room)
 unfolding judged NotShort
 text_cases text P bad good = go (first_ruling (text_checks text)) refl (below_first (text_checks text) (text_below text))
   where
-    go : (x : Ruling) → first_ruling (text_checks text) ≡ x → NotShort x → P (answer_of text program_room)
-    go R.Fine e n =
+    go : (x : Result (Unit {0}) RefusedText) → first_ruling (text_checks text) ≡ x → NotShort x → P (answer_of text program_room)
+    go (Ok fine) e n =
         let g = (fine_text text e).lines in
-        let j : judged text ≡ Ver.Good (starts (value_lines text)) = ap (λ (y : Ruling). verdict y (starts (value_lines text))) e in
+        let j : judged text ≡ Ok (starts (value_lines text)) = ap (λ (y : Result (Unit {0}) RefusedText). verdict y (starts (value_lines text))) e in
         let f = few 0 0 (value_lines text) (omega arith) g in
         subst P (sym (full_answer text program_room (starts (value_lines text)) j (omega arith))) good
-    go (R.Refused r line) e n =
-        let j : judged text ≡ Ver.Refused r line = ap (λ (y : Ruling). verdict y (starts (value_lines text))) e in
-        subst P (sym (refused_answer text program_room r line j)) (bad r line n)
+    go (Err r) e n =
+        let j : judged text ≡ Err r = ap (λ (y : Result (Unit {0}) RefusedText). verdict y (starts (value_lines text))) e in
+        subst P (sym (refused_answer text program_room r j)) (bad r n)
 
 some_same : (m n : ℕ) → some m ≡ some n → m ≡ n
 some_same m n e = cc
@@ -261,7 +256,7 @@ pub program_fits : ProgramFits
 program_fits = record {
   never_short = λ text.
       text_cases text (λ a. (text_says a).number ≡ some 22 → ⊥)
-      (λ r line h e. omega (arith, some_same (text_number r) 22 e))
+      (λ r h e. omega (arith, some_same (text_number r.refusal) 22 e))
       (λ e. let z : ◌≡◌ {A = ℕ} 0 1 = cc in omega arith);
   fits = λ text room n e. omega (arith, written_length text room n e, short_enough text (written_fine text room n e));
 }

@@ -4,10 +4,10 @@ use mathlib.Core.Bool.{cond, not}
 use mathlib.Core.List.{List}
 use mathlib.Core.Option.{some}
 use Prim.Native.Nat.{ℕ}
-use native.Mathlib.Omega.{arith}
 use lib.IntN.{ℤ}
 use lib.ListN.{length}
 use Rattle.whole.proofs.ListLaws.{by_test}
+use Rattle.std.specs.Prelude.{Ok, Err}
 use Rattle.chart_rules.specs.Sets.{set_of}
 use Rattle.chart_rules.specs.Rows.{row_exists}
 use Rattle.chart_rules.specs.Charts.{fresh_chart}
@@ -16,7 +16,6 @@ use Rattle.chart_rules.specs.Calls.{opening, open_of, accepted, result_of, chart
 use Rattle.chart_rules.specs.InPlace.{open_in, left_by, chart_set_in}
 use Rattle.chart_rules.specs.Laws.{HeldInPlace}
 use Rattle.chart_rules.specs.declared.Refusal.TheVariants.{UnknownRow}
-use Rattle.chart_rules.specs.declared.Judgement.TheVariants as J
 use Rattle.chart_rules.proofs.Charts.{sound_chart}
 use Rattle.chart_rules.proofs.Places.{read_back, fifteen}
 use Rattle.chart_rules.proofs.Fine.{FineCall}
@@ -43,13 +42,13 @@ module _ (words : List ℤ) (week : ℕ) (numbers : List ℤ) where
       call_cases (chart_at words) week numbers (length buffer)
       (λ x. (n : ℕ) → (chart_says x.answer).number ≡ some n → left_by x.answer words week numbers ≡ words)
       (λ r n e. refl)
-      (λ f n e. let z : ◌≡◌ {A = ℕ} 0 1 = cc in absurd (omega arith))
+      (λ f n e. absurd cc)
 
 fresh : (row : ℕ) → fresh_chart (open_of row).chart.row ≡ (open_of row).chart
 unfolding open_of opening
 fresh row =
     by_test (row_exists row)
-    (λ b. fresh_chart (opening (cond (not b) (J.Refused UnknownRow) J.Fine) row).chart.row ≡ (opening (cond (not b) (J.Refused UnknownRow) J.Fine) row).chart)
+    (λ b. fresh_chart (opening (cond (not b) (Err UnknownRow) (Ok tt)) row).chart.row ≡ (opening (cond (not b) (Err UnknownRow) (Ok tt)) row).chart)
     (λ e. refl) (λ e. refl)
 
 opened : (row : ℕ) → chart_at (open_in row).places ≡ (open_of row).chart

@@ -5,7 +5,7 @@ pub mod Lines
 pub mod Charts
 pub mod Fine
 pub mod Calls
-pub mod Charted
+pub mod Results
 pub mod Places
 pub mod InPlace
 pub mod Numbers

@@ -15,11 +15,10 @@ use Rattle.chart_rules.specs.Fine.{GoodLines}
 use Rattle.chart_rules.specs.Judging.{value_lines, starts}
 use Rattle.chart_rules.specs.declared.Chart.{Chart}
 use Rattle.chart_rules.specs.declared.ValueLine.{ValueLine}
-use Rattle.chart_rules.specs.declared.LineRead.{LineRead}
-use Rattle.chart_rules.specs.declared.LineRead.TheVariants.{Values, Bad}
-use Rattle.chart_rules.proofs.Charted.{line_fits}
+use Rattle.chart_rules.proofs.Results.{line_fits}
 use Rattle.chart_rules.proofs.Gathering.{finished_some}
 use Rattle.chart_rules.proofs.Rulings.{fine_first}
+use Rattle.std.specs.Prelude.{Option, Some, None}
 
 pub chart_append : (c : Chart) (a b : List Gathered) → chart_all c (a ++ b) ≡ chart_all c a ++ chart_all (chart_after c a) b
 unfolding chart_all chart_after
@@ -45,11 +44,11 @@ closed_length s v h =
     rw (finished_some s h)
     (by_test (eqb v.sample 1) (λ t. length {A = Gathered} (cond t (s ∷ []) []) ≡ cond t 1 0) (λ e. refl) (λ e. refl))
 
-count_from : (week sample : ℕ) (s : Gathered) (ls : List LineRead) → 0 < length s.numbers → GoodLines week sample ls → starts ls + 1 ≡ length (sets_of s ls)
+count_from : (week sample : ℕ) (s : Gathered) (ls : List (Option ValueLine)) → 0 < length s.numbers → GoodLines week sample ls → starts ls + 1 ≡ length (sets_of s ls)
 unfolding starts sets_of GoodLines
 count_from week sample s [] h g = sym (ap length (finished_some s h))
-count_from week sample s (Bad ∷ ls) h g = absurd g
-count_from week sample s (Values v next ∷ ls) h g =
+count_from week sample s (None ∷ ls) h g = absurd g
+count_from week sample s (Some v ∷ ls) h g =
     let t = joined (kept s v) v in
     omega (
       arith,
@@ -58,9 +57,9 @@ count_from week sample s (Values v next ∷ ls) h g =
       length-append (closed s v) (sets_of t ls),
     )
 
-pub first_sets : (v : ValueLine) (next : ℕ) (ls : List LineRead) → v.sample ≡ 1 → sets_of none (Values v next ∷ ls) ≡ sets_of (joined none v) ls
+pub first_sets : (v : ValueLine) (ls : List (Option ValueLine)) → v.sample ≡ 1 → sets_of none (Some v ∷ ls) ≡ sets_of (joined none v) ls
 unfolding sets_of closed kept finished
-first_sets v next ls e = rw (eq-eqb _ 1 e)
+first_sets v ls e = rw (eq-eqb _ 1 e)
 
 first_start : (v : ValueLine) → v.sample ≡ 1 → cond {A = ℕ} (eqb v.sample 1) 1 0 ≡ 1
 first_start v e = rw (eq-eqb v.sample 1 e)
@@ -69,17 +68,17 @@ none_sets : length (sets_of none []) ≡ 0
 unfolding sets_of finished
 none_sets = refl
 
-count_sets : (ls : List LineRead) → GoodLines 0 0 ls → starts ls ≡ length (sets_of none ls)
+count_sets : (ls : List (Option ValueLine)) → GoodLines 0 0 ls → starts ls ≡ length (sets_of none ls)
 unfolding starts GoodLines
 count_sets [] g = sym none_sets
-count_sets (Bad ∷ ls) g = absurd g
-count_sets (Values v next ∷ ls) g =
+count_sets (None ∷ ls) g = absurd g
+count_sets (Some v ∷ ls) g =
     let one = fine_first 0 v g.0 in
     omega (
       arith,
       count_from v.week v.sample (joined none v) ls (joined_some none v) g.1,
       first_start v one,
-      ap length (first_sets v next ls one),
+      ap length (first_sets v ls one),
     )
 
 -- a good text has as many sets as lines that start one

@@ -11,10 +11,9 @@ use borrow.Author.Tests.{lt-ltb, le-leb, ne_eqb}
 use Rattle.decimal.specs.Show.{show}
 use Rattle.decimal.proofs.Show.{lt_or_ge, show_small, show_step, length_step}
 use Rattle.chart_rules.specs.TextLines.{is_digit, digits, number}
-use Rattle.chart_rules.specs.declared.Number.TheVariants.{Value}
+use Rattle.std.specs.Prelude.{Some}
 
 is_digit_lem : (d : ℕ) → d < 10 → is_digit (48 + d) ≡ true
-unfolding is_digit
 is_digit_lem d h = rw (le-leb 48 (48 + d) (omega arith), le-leb (48 + d) 57 (omega arith))
 
 -- a digit that is shown goes onto the number
@@ -57,20 +56,20 @@ abbrev pub leads : List ℕ → Bool
 leads [] = false
 leads (c ∷ cs) = is_digit c
 
-digits_done : (n i : ℕ) (cs : List ℕ) → leads cs ≡ false → digits n i cs ≡ Value n i
+digits_done : (n i : ℕ) (cs : List ℕ) → leads cs ≡ false → digits n i cs ≡ Some (n, i)
 unfolding digits
 digits_done n i [] e = refl
 digits_done n i (c ∷ cs) e = rw e
 
 -- ROUND TRIP: what stands at position i is n in decimal, n has at most five digits, and no digit follows: the reader finds n, and the position behind it
-pub read_show : (n i : ℕ) (cs : List ℕ) → n < 100000 → leads cs ≡ false → number i (show n ++ cs) ≡ Value n (i + length (show n))
+pub read_show : (n i : ℕ) (cs : List ℕ) → n < 100000 → leads cs ≡ false → number i (show n ++ cs) ≡ Some (n, i + length (show n))
 unfolding number
 read_show n i cs l e =
     ⊎_elim
     (λ (z : n ≡ 0).
     ap (λ (m : ℕ). number i (show m ++ cs)) z
     ∙ ap (λ (ds : List ℕ). number i (ds ++ cs)) (show_small 0 (omega arith))
-    ∙ ap (λ (m : ℕ). Value 0 (i + m)) (sym (ap length (show_small 0 (omega arith))))
-    ∙ ap (λ (m : ℕ). Value m (i + length (show m))) (sym z))
+    ∙ ap (λ (m : ℕ). Some (0, i + m)) (sym (ap length (show_small 0 (omega arith))))
+    ∙ ap (λ (m : ℕ). Some (m, i + length (show m))) (sym z))
     (λ p. shown_read (suc n) n i cs (omega arith) p l ∙ digits_done n (i + length (show n)) cs e)
     (eq-zero-or-pos n)

@@ -5,50 +5,48 @@ use mathlib.Core.List.{List, [], ◌∷◌, ◌++◌}
 use Prim.Native.Nat.{ℕ, ◌+◌, ◌≤◌, ◌<◌}
 use native.Mathlib.Omega.{arith}
 use lib.IntN.{pos}
-use lib.Dec.{ltb, eqb}
-use borrow.Author.Tests.{le-ltb, leb-true, eqb-true, eqb-false, not-true, not-false}
+use lib.Dec.{eqb}
+use borrow.Author.Tests.{leb-true, eqb-true, eqb-false, not-true, not-false}
 use Rattle.whole.specs.Lists.{Check}
-use Rattle.whole.proofs.Tests.{and_both, or_false}
+use Rattle.whole.proofs.Tests.{and_both}
 use Rattle.whole.proofs.ListLaws.{by_test}
-use Rattle.chart_rules.specs.Refusals.{outside, bad_result}
-use Rattle.chart_rules.specs.Judging.{InLine, first_ruling, is_next, is_start, ruling}
+use Rattle.chart_rules.specs.Judging.{first_ruling, is_next, is_start, ruling}
 use Rattle.chart_rules.specs.Fine.{FineLine}
 use Rattle.chart_rules.specs.declared.ValueLine.{ValueLine}
-use Rattle.chart_rules.specs.declared.TextRefusal.{TextRefusal}
-use Rattle.chart_rules.specs.declared.Ruling.{Ruling}
-use Rattle.chart_rules.specs.declared.Ruling.TheVariants as R
 use Rattle.chart_rules.proofs.Bounds.{each_inside, week_facts}
+use Rattle.std.specs.Prelude.{Result, Ok, Err}
+use Rattle.chart_rules.specs.declared.RefusedText.{RefusedText}
 
 -- ---- the first of two lists of checks
-unfoldable pub otherwise : Ruling → Ruling → Ruling
-otherwise R.Fine x = x
-otherwise (R.Refused r l) x = R.Refused r l
+unfoldable pub otherwise : Result (Unit {0}) RefusedText → Result (Unit {0}) RefusedText → Result (Unit {0}) RefusedText
+otherwise (Ok fine) x = x
+otherwise (Err r) x = Err r
 
-pub first_append : (a b : List (Check InLine)) → first_ruling (a ++ b) ≡ otherwise (first_ruling a) (first_ruling b)
+pub first_append : (a b : List (Check RefusedText)) → first_ruling (a ++ b) ≡ otherwise (first_ruling a) (first_ruling b)
 unfolding otherwise
 first_append [] b = refl
 first_append (c ∷ a) b =
     by_test c.applies
-    (λ t. cond t (R.Refused c.answer.refusal c.answer.line) (first_ruling (a ++ b)) ≡ otherwise (cond t (R.Refused c.answer.refusal c.answer.line) (first_ruling a)) (first_ruling b))
+    (λ t. cond t (Err c.answer) (first_ruling (a ++ b)) ≡ otherwise (cond t (Err c.answer) (first_ruling a)) (first_ruling b))
     (λ e. refl) (λ e. first_append a b)
 
 -- none of a list's checks applies
-pub fine_head : (t : Bool) (r : TextRefusal) (l : ℕ) (rest : Ruling) → cond t (R.Refused r l) rest ≡ R.Fine → (t ≡ false) × (rest ≡ R.Fine)
-fine_head true r l rest e = let z : ◌≡◌ {A = ℕ} 0 1 = cc in absurd (omega arith)
-fine_head false r l rest e = (refl, e)
+pub fine_head : (t : Bool) (r : RefusedText) (rest : Result (Unit {0}) RefusedText) → cond t (Err r) rest ≡ Ok tt → (t ≡ false) × (rest ≡ Ok tt)
+fine_head true r rest e = let z : ◌≡◌ {A = ℕ} 0 1 = cc in absurd (omega arith)
+fine_head false r rest e = (refl, e)
 
-pub fine_both : (x y : Ruling) → otherwise x y ≡ R.Fine → (x ≡ R.Fine) × (y ≡ R.Fine)
+pub fine_both : (x y : Result (Unit {0}) RefusedText) → otherwise x y ≡ Ok tt → (x ≡ Ok tt) × (y ≡ Ok tt)
 unfolding otherwise
-fine_both R.Fine y e = (refl, e)
-fine_both (R.Refused r l) y e = let z : ◌≡◌ {A = ℕ} 0 1 = cc in absurd (omega arith)
+fine_both (Ok fine) y e = (refl, e)
+fine_both (Err r) y e = let z : ◌≡◌ {A = ℕ} 0 1 = cc in absurd (omega arith)
 
 -- ---- a line that is fine
-pub fine_line : (week sample line : ℕ) (v : ValueLine) → ruling week sample line v ≡ R.Fine → FineLine week sample v
+pub fine_line : (week sample line : ℕ) (v : ValueLine) → ruling week sample line v ≡ Ok tt → FineLine week sample v
 unfolding ruling
 fine_line week sample line v e =
-    let a = fine_head _ _ _ _ e in
-    let b = fine_head _ _ _ _ a.1 in
-    let d = fine_head _ _ _ _ b.1 in
+    let a = fine_head _ _ _ e in
+    let b = fine_head _ _ _ a.1 in
+    let d = fine_head _ _ _ b.1 in
     record { place = not-false _ a.0; time = b.0; results = d.0 }
 
 -- one of two tests passes
@@ -101,12 +99,3 @@ fine_first week v f =
     or_cases (is_next week 0 v) (is_start week 0 v) _ f.place
     (λ n. absurd ((next_facts week 0 v n).0 refl))
     (λ s. start_facts week 0 v s)
-
--- ---- results that have no sign
-natural_outside : (n : ℕ) → outside (pos n) ≡ ltb 10000 n
-unfolding outside
-natural_outside n = rw (le-ltb n 0 (omega arith))
-
-pub bad_pair : (o m : ℕ) → ltb 10000 o || ltb 10000 m ≡ bad_result (pos o ∷ pos m ∷ [])
-unfolding bad_result
-bad_pair o m = rw (natural_outside o, natural_outside m, or_false (ltb 10000 m))

@@ -8,7 +8,7 @@ use lib.IntN.{ℤ, pos, ◌-ℤ◌, nat_abs}
 use lib.ListN.{length, get_or}
 use lib.Dec.{leb}
 use borrow.Author.Tests.{le-leb, leb-true}
-use Rattle.whole.specs.Parts.{Within}
+use Rattle.whole.proofs.Parts.{Within}
 use Rattle.whole.specs.Lists.{total, largest, smallest}
 use Rattle.whole.proofs.PartLaws.{diff, either, size_parts}
 use Rattle.whole.proofs.ListLaws.{Each, total_within, spread_within}
@@ -20,7 +20,7 @@ use Rattle.chart_rules.specs.declared.ChartSet.{ChartSet}
 use Rattle.chart_rules.proofs.Bounds.{size_facts, each_inside}
 
 -- ---- differences
-within_diff : (a b : ℤ) → Within 0 10000 a → Within 0 10000 b → Within 10000 10000 (a -ℤ b)
+pub within_diff : (a b : ℤ) → Within 0 10000 a → Within 0 10000 b → Within 10000 10000 (a -ℤ b)
 within_diff a b h k = omega (arith, diff a b)
 
 pub each_diff : (l : List ℤ) → Each 0 10000 l → Each 10000 10000 (differences l)

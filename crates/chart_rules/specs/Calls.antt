@@ -1,5 +1,5 @@
 -- docs/SPECIFICATION.md, "Control charts" and "Refused calls": opening a chart, and the call that charts one set (chart, week, pairs, buffer).
-use Rattle.std.specs.Prelude.{ℕ, not, List, [], ◌∷◌, ◌++◌, ℤ, pos, length}
+use Rattle.std.specs.Prelude.{ℕ, not, List, [], ◌∷◌, ◌++◌, ℤ, pos, length, Result, Ok, Err}
 use Rattle.std.proofs.Math.Option.{none, some}
 use Rattle.whole.specs.Lists.{Check}
 use Rattle.whole.specs.Says.{Says}
@@ -12,12 +12,7 @@ use Rattle.chart_rules.specs.Refusals.{number_of, first_refusal, refusal_of}
 use Rattle.chart_rules.specs.declared.Chart.{Chart}
 use Rattle.chart_rules.specs.declared.Refusal.{Refusal}
 use Rattle.chart_rules.specs.declared.Refusal.TheVariants.{UnknownRow}
-use Rattle.chart_rules.specs.declared.Judgement.{Judgement}
-use Rattle.chart_rules.specs.declared.Judgement.TheVariants as J
-use Rattle.chart_rules.specs.declared.OpenAnswer.{OpenAnswer}
-use Rattle.chart_rules.specs.declared.OpenAnswer.TheVariants as Open
-use Rattle.chart_rules.specs.declared.ChartAnswer.{ChartAnswer}
-use Rattle.chart_rules.specs.declared.ChartAnswer.TheVariants.{Charted, Refused}
+use Rattle.chart_rules.specs.declared.Charted.{Charted}
 
 -- ---- opening
 
@@ -28,12 +23,12 @@ open_checks row = record { applies = not (row_exists row); answer = UnknownRow }
 -- the opened chart, and the answer
 pub record Opening : Type 0 where
   pub chart : Chart
-  pub answer : OpenAnswer
+  pub answer : Result (Unit {0}) Refusal
 
 -- a refused opening hands back a fresh chart of row 0
-unfoldable pub opening : Judgement → ℕ → Opening
-opening J.Fine row = record { chart = fresh_chart row; answer = Open.Opened }
-opening (J.Refused r) row = record { chart = fresh_chart 0; answer = Open.Refused r }
+unfoldable pub opening : Result (Unit {0}) Refusal → ℕ → Opening
+opening (Ok done) row = record { chart = fresh_chart row; answer = Ok done }
+opening (Err r) row = record { chart = fresh_chart 0; answer = Err r }
 
 -- opening a chart of a row
 unfoldable pub open_of : ℕ → Opening
@@ -44,28 +39,28 @@ open_of row = opening (first_refusal (open_checks row)) row
 -- what a call leaves: the chart, and what it answers
 pub record ChartResult : Type 0 where
   pub chart : Chart
-  pub answer : ChartAnswer
+  pub answer : Result Charted Refusal
 
 -- an accepted call: the chart with the set, the line's values and its length
 unfoldable pub accepted : Chart → ℕ → List ℤ → ChartResult
 accepted c week numbers =
     let s = set_of numbers in
     let v = values_of c week s in
-    record { chart = next_chart c week s; answer = Charted v (length (line_of v)) }
+    record { chart = next_chart c week s; answer = Ok (record { values = v; length = length (line_of v) }) }
 
 -- a refused call answers its refusal, and the chart it was given stays
-unfoldable pub decided : Judgement → Chart → ChartResult → ChartResult
-decided J.Fine c done = done
-decided (J.Refused r) c done = record { chart = c; answer = Refused r }
+unfoldable pub decided : Result (Unit {0}) Refusal → Chart → ChartResult → ChartResult
+decided (Ok fine) c done = done
+decided (Err r) c done = record { chart = c; answer = Err r }
 
 -- the chart and the answer of a call whose buffer has this many bytes
 unfoldable pub result_of : Chart → ℕ → List ℤ → ℕ → ChartResult
 result_of c week numbers room = decided (refusal_of c week numbers room) c (accepted c week numbers)
 
 -- what an answer writes: its line, or nothing
-unfoldable pub bytes_of : ChartAnswer → List ℕ
-bytes_of (Charted v length) = line_of v
-bytes_of (Refused r) = []
+unfoldable pub bytes_of : Result Charted Refusal → List ℕ
+bytes_of (Ok charted) = line_of charted.values
+bytes_of (Err r) = []
 
 -- a call's result and its buffer afterwards
 pub record SetCharted : Type 0 where
@@ -81,11 +76,11 @@ chart_set_of c week numbers buffer =
 -- ---- the number and the values of each answer
 
 -- an opening has no values
-abbrev pub open_says : OpenAnswer → Says
-open_says Open.Opened = record { number = none; values = [] }
-open_says (Open.Refused r) = record { number = some (number_of r); values = [] }
+abbrev pub open_says : Result (Unit {0}) Refusal → Says
+open_says (Ok done) = record { number = none; values = [] }
+open_says (Err r) = record { number = some (number_of r); values = [] }
 
 -- the output line's nine fields, and its length
-abbrev pub chart_says : ChartAnswer → Says
-chart_says (Charted v length) = record { number = none; values = fields v ++ (pos length ∷ []) }
-chart_says (Refused r) = record { number = some (number_of r); values = [] }
+abbrev pub chart_says : Result Charted Refusal → Says
+chart_says (Ok charted) = record { number = none; values = fields charted.values ++ (pos charted.length ∷ []) }
+chart_says (Err r) = record { number = some (number_of r); values = [] }

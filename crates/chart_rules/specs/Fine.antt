@@ -1,10 +1,8 @@
 -- What proofs need of a line that is not refused and of a good text's lines; no rule cites it.
-use Rattle.std.specs.Prelude.{ℕ, ◌≡◌, true, false, ◌&&◌, ◌||◌, List, [], ◌∷◌}
+use Rattle.std.specs.Prelude.{ℕ, ◌≡◌, true, false, ◌&&◌, ◌||◌, List, [], ◌∷◌, Option, Some, None}
 use Rattle.chart_rules.specs.Refusals.{bad_result, bad_week}
 use Rattle.chart_rules.specs.Judging.{is_next, is_start, pair}
 use Rattle.chart_rules.specs.declared.ValueLine.{ValueLine}
-use Rattle.chart_rules.specs.declared.LineRead.{LineRead}
-use Rattle.chart_rules.specs.declared.LineRead.TheVariants.{Values, Bad}
 
 -- none of 18, 19 and 21 applies to the line
 pub record FineLine (week sample : ℕ) (v : ValueLine) : Type 0 where
@@ -13,7 +11,7 @@ pub record FineLine (week sample : ℕ) (v : ValueLine) : Type 0 where
   pub results : bad_result (pair v) ≡ false
 
 -- every line is fine after the one before it
-unfoldable pub GoodLines : ℕ → ℕ → List LineRead → Type 0
+unfoldable pub GoodLines : ℕ → ℕ → List (Option ValueLine) → Type 0
 GoodLines week sample [] = Unit {0}
-GoodLines week sample (Bad ∷ ls) = ⊥
-GoodLines week sample (Values v next ∷ ls) = FineLine week sample v × GoodLines v.week v.sample ls
+GoodLines week sample (None ∷ ls) = ⊥
+GoodLines week sample (Some v ∷ ls) = FineLine week sample v × GoodLines v.week v.sample ls

@@ -1,9 +1,7 @@
 -- docs/SPECIFICATION.md, "Control charts": the sets of a text, gathered from its lines.
-use Rattle.std.specs.Prelude.{ℕ, cond, List, [], ◌∷◌, ◌++◌, ℤ, length, eqb}
+use Rattle.std.specs.Prelude.{ℕ, cond, List, [], ◌∷◌, ◌++◌, ℤ, length, eqb, Option, Some, None}
 use Rattle.chart_rules.specs.Judging.{pair}
 use Rattle.chart_rules.specs.declared.ValueLine.{ValueLine}
-use Rattle.chart_rules.specs.declared.LineRead.{LineRead}
-use Rattle.chart_rules.specs.declared.LineRead.TheVariants.{Values, Bad}
 
 -- a set of a text: its week and its results, original and monitor in turn
 pub record Gathered : Type 0 where
@@ -31,7 +29,7 @@ unfoldable pub kept : Gathered → ValueLine → Gathered
 kept s v = cond (eqb v.sample 1) none s
 
 -- the sets of some lines, after a set under way
-unfoldable pub sets_of : Gathered → List LineRead → List Gathered
+unfoldable pub sets_of : Gathered → List (Option ValueLine) → List Gathered
 sets_of s [] = finished s
-sets_of s (Bad ∷ ls) = finished s
-sets_of s (Values v next ∷ ls) = closed s v ++ sets_of (joined (kept s v) v) ls
+sets_of s (None ∷ ls) = finished s
+sets_of s (Some v ∷ ls) = closed s v ++ sets_of (joined (kept s v) v) ls

@@ -1,5 +1,5 @@
 -- What the chart's rules and calls promise besides the calls' contracts.
-use Rattle.std.specs.Prelude.{ℕ, ◌+◌, ◌≤◌, ◌<◌, ◌≡◌, true, false, List, [], ◌∷◌, ◌++◌, map, ℤ, pos, ◌*ℤ◌, length, take, drop}
+use Rattle.std.specs.Prelude.{ℕ, ◌+◌, ◌≤◌, ◌<◌, ◌≡◌, true, false, List, [], ◌∷◌, ◌++◌, map, ℤ, pos, ◌*ℤ◌, length, take, drop, Option, Some, None, Ok}
 use Rattle.std.proofs.Math.Option.{none, some}
 use Rattle.chart_rules.specs.Rows.{row_exists}
 use Rattle.chart_rules.specs.Run.{sixtieths}
@@ -15,9 +15,6 @@ use Rattle.chart_rules.specs.Output.{text_sets, answer_of, chart_text_of, text_s
 use Rattle.chart_rules.specs.declared.ChartSet.{ChartSet}
 use Rattle.chart_rules.specs.declared.Chart.{Chart}
 use Rattle.chart_rules.specs.declared.ValueLine.{ValueLine}
-use Rattle.chart_rules.specs.declared.LineRead.{LineRead}
-use Rattle.chart_rules.specs.declared.LineRead.TheVariants.{Values, Bad}
-use Rattle.chart_rules.specs.declared.TextAnswer.TheVariants.{Written}
 
 -- ---- a chart
 
@@ -84,11 +81,11 @@ pub record LinesExact : Type 0 where
   -- where the text has the line of v at position at, the reader finds v and the position behind the line
   pub written_read :
       (text : List ℕ) (at : ℕ) (v : ValueLine) (rest : List ℕ)
-      → drop at text ≡ value_line v ++ rest → FiveDigits v → line_at text at ≡ Values v (at + length (value_line v))
+      → drop at text ≡ value_line v ++ rest → FiveDigits v → line_at text at ≡ Some (v, at + length (value_line v))
   -- where the reader finds v and a position behind it, the text has the line of v there, with no number of more than five digits
   pub read_written :
       (text : List ℕ) (at next : ℕ) (v : ValueLine)
-      → line_at text at ≡ Values v next → FiveDigits v × (next ≡ at + length (value_line v)) × (drop at text ≡ value_line v ++ drop next text)
+      → line_at text at ≡ Some (v, next) → FiveDigits v × (next ≡ at + length (value_line v)) × (drop at text ≡ value_line v ++ drop next text)
 
 -- value lines as they are written, one after another
 unfoldable pub lines_text : List ValueLine → List ℕ
@@ -100,10 +97,10 @@ unfoldable pub text_of : List ValueLine → List ℕ
 text_of vs = names_line ++ lines_text vs
 
 -- the numbers of the lines that were read
-unfoldable pub lines_read : List LineRead → List ValueLine
+unfoldable pub lines_read : List (Option ValueLine) → List ValueLine
 lines_read [] = []
-lines_read (Bad ∷ ls) = []
-lines_read (Values v next ∷ ls) = v ∷ lines_read ls
+lines_read (None ∷ ls) = []
+lines_read (Some v ∷ ls) = v ∷ lines_read ls
 
 -- no number of more than five digits
 unfoldable pub AllFive : List ValueLine → Type 0
@@ -113,7 +110,7 @@ AllFive (v ∷ vs) = FiveDigits v × AllFive vs
 -- a text and its numbers determine each other
 pub record TextExact : Type 0 where
   pub written_read : (vs : List ValueLine) → AllFive vs → lines_read (value_lines (text_of vs)) ≡ vs
-  pub read_written : (text : List ℕ) (room n : ℕ) → answer_of text room ≡ Written n → text_of (lines_read (value_lines text)) ≡ text
+  pub read_written : (text : List ℕ) (room n : ℕ) → answer_of text room ≡ Ok n → text_of (lines_read (value_lines text)) ≡ text
 
 -- ---- a good text's sets are the ones charted
 
@@ -135,7 +132,7 @@ line_results (v ∷ vs) = pair v ++ line_results vs
 
 -- no set is refused, and the sets have all the lines' results in order
 pub record GoodCharted : Type 0 where
-  pub accepted : (text : List ℕ) (room n : ℕ) → answer_of text room ≡ Written n → AllCharted (fresh_chart 0) (text_sets text)
+  pub accepted : (text : List ℕ) (room n : ℕ) → answer_of text room ≡ Ok n → AllCharted (fresh_chart 0) (text_sets text)
   pub complete : (text : List ℕ) → set_results (text_sets text) ≡ line_results (lines_read (value_lines text))
 
 -- ---- a refused text writes nothing
@@ -151,4 +148,4 @@ program_room = 400000
 -- the program never answers 22, and no output is longer than its buffer, whatever buffer it was written to
 pub record ProgramFits : Type 0 where
   pub never_short : (text : List ℕ) → (text_says (answer_of text program_room)).number ≡ some 22 → ⊥
-  pub fits : (text : List ℕ) (room n : ℕ) → answer_of text room ≡ Written n → n ≤ program_room
+  pub fits : (text : List ℕ) (room n : ℕ) → answer_of text room ≡ Ok n → n ≤ program_room

@@ -1,5 +1,5 @@
 -- docs/SPECIFICATION.md, "Control charts": the output for a whole text, its sets charted in turn, which is the chart call's own rule over them.
-use Rattle.std.specs.Prelude.{ℕ, ◌+◌, ◌*◌, List, [], ◌∷◌, ◌++◌, pos, length, ltb}
+use Rattle.std.specs.Prelude.{ℕ, ◌+◌, ◌*◌, List, [], ◌∷◌, ◌++◌, pos, length, ltb, Result, Ok, Err}
 use Rattle.std.proofs.Math.Option.{none as nothing, some}
 use Rattle.whole.specs.Lists.{Check}
 use Rattle.whole.specs.Says.{Says}
@@ -7,14 +7,11 @@ use Rattle.decimal.specs.Bytes.{bytes}
 use Rattle.decimal.specs.Put.{overwritten}
 use Rattle.chart_rules.specs.Charts.{fresh_chart}
 use Rattle.chart_rules.specs.Calls.{result_of, bytes_of}
-use Rattle.chart_rules.specs.Judging.{InLine, check, text_number, first_ruling, text_checks, value_lines}
+use Rattle.chart_rules.specs.Judging.{check, text_number, first_ruling, verdict, text_checks, value_lines}
 use Rattle.chart_rules.specs.Gathering.{Gathered, none, sets_of}
 use Rattle.chart_rules.specs.declared.Chart.{Chart}
 use Rattle.chart_rules.specs.declared.TextRefusal.TheVariants.{ShortBuffer}
-use Rattle.chart_rules.specs.declared.Ruling.{Ruling}
-use Rattle.chart_rules.specs.declared.Ruling.TheVariants as R
-use Rattle.chart_rules.specs.declared.TextAnswer.{TextAnswer}
-use Rattle.chart_rules.specs.declared.TextAnswer.TheVariants.{Written, Refused}
+use Rattle.chart_rules.specs.declared.RefusedText.{RefusedText}
 
 -- ---- some sets charted in turn
 
@@ -51,30 +48,25 @@ output_of text = output_names ++ text_lines text
 -- ---- the call
 
 -- 22: the buffer is shorter than 40 bytes for each line to be written, the names line and one for each set (text line 0)
-abbrev pub room_check : List ℕ → ℕ → Check InLine
+abbrev pub room_check : List ℕ → ℕ → Check RefusedText
 room_check text room = check (ltb room (40 * (length (text_sets text) + 1))) ShortBuffer 0
 
 -- the checks of a text call whose buffer has this many bytes, in their order
-abbrev pub call_checks : List ℕ → ℕ → List (Check InLine)
+abbrev pub call_checks : List ℕ → ℕ → List (Check RefusedText)
 call_checks text room = text_checks text ++ (room_check text room ∷ [])
 
--- a refusal, or the length of what is written
-abbrev pub answered : Ruling → ℕ → TextAnswer
-answered R.Fine length = Written length
-answered (R.Refused r line) length = Refused r line
-
--- the answer of a text call whose buffer has this many bytes
-unfoldable pub answer_of : List ℕ → ℕ → TextAnswer
-answer_of text room = answered (first_ruling (call_checks text room)) (length (output_of text))
+-- the answer of a text call whose buffer has this many bytes: the length of what is written, or a refusal with its text line
+unfoldable pub answer_of : List ℕ → ℕ → Result ℕ RefusedText
+answer_of text room = verdict (first_ruling (call_checks text room)) (length (output_of text))
 
 -- what an answer writes: the whole output, or nothing
-unfoldable pub text_bytes : TextAnswer → List ℕ → List ℕ
-text_bytes (Written n) output = output
-text_bytes (Refused r line) output = []
+unfoldable pub text_bytes : Result ℕ RefusedText → List ℕ → List ℕ
+text_bytes (Ok n) output = output
+text_bytes (Err r) output = []
 
 -- a text call's answer and its buffer afterwards
 pub record TextCharted : Type 0 where
-  pub answer : TextAnswer
+  pub answer : Result ℕ RefusedText
   pub buffer : List ℕ
 
 -- the call: the output stands at the buffer's start, and no later byte is touched
@@ -84,6 +76,6 @@ chart_text_of text buffer =
     record { answer = a; buffer = overwritten (text_bytes a (output_of text)) buffer }
 
 -- the written length; or the refusal's number, and the text line
-abbrev pub text_says : TextAnswer → Says
-text_says (Written n) = record { number = nothing; values = pos n ∷ [] }
-text_says (Refused r line) = record { number = some (text_number r); values = pos line ∷ [] }
+abbrev pub text_says : Result ℕ RefusedText → Says
+text_says (Ok n) = record { number = nothing; values = pos n ∷ [] }
+text_says (Err r) = record { number = some (text_number r.refusal); values = pos r.line ∷ [] }

@@ -1,22 +1,21 @@
 -- docs/SPECIFICATION.md, "Control charts": what the program prints, the output of a text or the line of its refusal.
-use Rattle.std.specs.Prelude.{ℕ, cond, List, [], ◌∷◌, ◌++◌, length}
+use Rattle.std.specs.Prelude.{ℕ, cond, List, [], ◌∷◌, ◌++◌, length, Result, Ok, Err}
 use Rattle.decimal.specs.Bytes.{bytes, space, line_feed}
 use Rattle.decimal.specs.Show.{show}
 use Rattle.decimal.specs.Put.{overwritten}
 use Rattle.chart_rules.specs.Refusals.{short_buffer}
 use Rattle.chart_rules.specs.Judging.{text_number}
 use Rattle.chart_rules.specs.Output.{output_of, answer_of}
-use Rattle.chart_rules.specs.declared.TextAnswer.{TextAnswer}
-use Rattle.chart_rules.specs.declared.TextAnswer.TheVariants.{Written, Refused}
+use Rattle.chart_rules.specs.declared.RefusedText.{RefusedText}
 
 -- `refused`, the number and the text line, single spaces, a line feed
 unfoldable pub refusal_bytes : ℕ → ℕ → List ℕ
 refusal_bytes number line = bytes "refused" ++ (space ∷ show number) ++ (space ∷ show line) ++ (line_feed ∷ [])
 
 -- the output, or on refusal only the refusal's line
-unfoldable pub spoken : TextAnswer → List ℕ → List ℕ
-spoken (Written n) output = output
-spoken (Refused r line) output = refusal_bytes (text_number r) line
+unfoldable pub spoken : Result ℕ RefusedText → List ℕ → List ℕ
+spoken (Ok n) output = output
+spoken (Err r) output = refusal_bytes (text_number r.refusal) r.line
 
 -- what is printed of a text, with a buffer of this many bytes; nothing where it is too short for a line
 unfoldable pub printed : List ℕ → ℕ → List ℕ

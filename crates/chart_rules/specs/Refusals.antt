@@ -1,13 +1,11 @@
 -- docs/SPECIFICATION.md, "Refused calls": the numbers of a chart call's refusals, and which is answered by a call that charts one set (chart, week, pairs, buffer).
-use Rattle.std.specs.Prelude.{ℕ, ◌%◌, Bool, not, ◌||◌, List, [], ◌∷◌, ℤ, pos, length, eqb, leb, ltb}
+use Rattle.std.specs.Prelude.{ℕ, ◌%◌, Bool, not, ◌||◌, List, [], ◌∷◌, ℤ, pos, length, eqb, leb, ltb, Result, Ok, Err}
 use Rattle.std.specs.Int.Signed.{lt_z}
 use Rattle.whole.specs.Lists.{any, Check, first_applying}
 use Rattle.chart_rules.specs.Charts.{sound}
 use Rattle.chart_rules.specs.declared.Chart.{Chart}
 use Rattle.chart_rules.specs.declared.Refusal.{Refusal}
 use Rattle.chart_rules.specs.declared.Refusal.TheVariants.{UnsoundChart, UnknownRow, BadWeek, BadSize, BadResult, ShortBuffer}
-use Rattle.chart_rules.specs.declared.Judgement.{Judgement}
-use Rattle.chart_rules.specs.declared.Judgement.TheVariants.{Fine, Refused}
 
 -- the refusal's number
 abbrev pub number_of : Refusal → ℕ
@@ -19,8 +17,8 @@ number_of BadResult = 21
 number_of ShortBuffer = 22
 
 -- the lowest applying number is answered: the first that applies of checks in the order of their numbers
-abbrev pub first_refusal : List (Check Refusal) → Judgement
-first_refusal = first_applying Fine Refused
+abbrev pub first_refusal : List (Check Refusal) → Result (Unit {0}) Refusal
+first_refusal = first_applying (Ok tt) Err
 
 -- 19: the week isn't above the chart's last week or is above 9999
 unfoldable pub bad_week : ℕ → ℕ → Bool
@@ -53,5 +51,5 @@ checks_of c week numbers room =
     ∷ []
 
 -- the call's refusal, where the buffer has this many bytes
-unfoldable pub refusal_of : Chart → ℕ → List ℤ → ℕ → Judgement
+unfoldable pub refusal_of : Chart → ℕ → List ℤ → ℕ → Result (Unit {0}) Refusal
 refusal_of c week numbers room = first_refusal (checks_of c week numbers room)

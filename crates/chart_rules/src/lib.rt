@@ -2,6 +2,11 @@
 
 #![tactic(auto)]
 
+ghost use Rattle.std.specs.Prelude.{◌≡◌};
+ghost use Rattle.chart_rules.specs.Charts.{past_of};
+ghost use Rattle.chart_rules.specs.Refusals.{number_of};
+ghost use Rattle.chart_rules.specs.Judging.{text_number};
+
 use whole::held;
 
 // ---- the rules' numbers
@@ -82,7 +87,7 @@ pub struct ChartSet {
     pub range: u32,
 }
 
-// A chart: its row, its last week, and its held sets, newest first, in the first `held` places.
+// A chart: its row, its last week, and its held sets, newest first, in the first `held` places: an array, since the core has no heap. The row is a number, as C hands it in and the places hold it.
 #[derive(Clone, Copy)]
 pub struct Chart {
     pub row: u32,
@@ -91,7 +96,16 @@ pub struct Chart {
     pub sets: [ChartSet; HELD_SETS],
 }
 
-// What a set's output line says.
+impl Chart {
+    // The held sets; all of the places where `held` says more.
+    pub fn past(&self) -> &[ChartSet]
+        ensures { result.now ≡ past_of self.now }
+    {
+        &self.sets[..HELD_SETS.min(self.held as usize)]
+    }
+}
+
+// What a set's output line says: the flags are values of it.
 #[derive(Clone, Copy)]
 pub struct Values {
     pub week: u32,
@@ -118,33 +132,30 @@ pub enum Refusal {
     ShortBuffer,
 }
 
-#[derive(Clone, Copy)]
-pub enum Judgement {
-    Fine,
-    Refused(Refusal),
+// A refusal's number.
+impl From<Refusal> for u32 {
+    ghost from_gives = { λ refusal n. n ≡ number_of refusal };
+
+    fn from(refusal: Refusal) -> u32 {
+        match refusal {
+            Refusal::UnsoundChart => 0,
+            Refusal::UnknownRow => 1,
+            Refusal::BadWeek => 19,
+            Refusal::BadSize => 20,
+            Refusal::BadResult => 21,
+            Refusal::ShortBuffer => 22,
+        }
+    }
 }
 
+// What an accepted call answers: the values of the output line, and its length in bytes.
 #[derive(Clone, Copy)]
-pub enum OpenAnswer {
-    Opened,
-    Refused(Refusal),
-}
-
-// The values of the output line and its length in bytes; or a refusal.
-#[derive(Clone, Copy)]
-pub enum ChartAnswer {
-    Charted(Values, usize),
-    Refused(Refusal),
+pub struct Charted {
+    pub values: Values,
+    pub length: usize,
 }
 
 // ---- a chart text
-
-// A number that was read, and the position behind it.
-#[derive(Clone, Copy)]
-pub enum Number {
-    Value(u32, usize),
-    Bad,
-}
 
 // A value line of a text.
 #[derive(Clone, Copy)]
@@ -153,13 +164,6 @@ pub struct ValueLine {
     pub sample: u32,
     pub original: u32,
     pub monitor: u32,
-}
-
-// A line that was read, and the position of the next.
-#[derive(Clone, Copy)]
-pub enum LineRead {
-    Values(ValueLine, usize),
-    Bad,
 }
 
 // Numbers 15 to 19, 21 and 22.
@@ -174,23 +178,26 @@ pub enum TextRefusal {
     ShortBuffer,
 }
 
-// A refusal with its text line, or none.
-#[derive(Clone, Copy)]
-pub enum Ruling {
-    Fine,
-    Refused(TextRefusal, u32),
+// A refusal's number.
+impl From<TextRefusal> for u32 {
+    ghost from_gives = { λ refusal n. n ≡ text_number refusal };
+
+    fn from(refusal: TextRefusal) -> u32 {
+        match refusal {
+            TextRefusal::TooLong => 15,
+            TextRefusal::BadNames => 16,
+            TextRefusal::BadLine => 17,
+            TextRefusal::BadSample => 18,
+            TextRefusal::BadWeek => 19,
+            TextRefusal::BadResult => 21,
+            TextRefusal::ShortBuffer => 22,
+        }
+    }
 }
 
-// The text is good and has so many sets; or the refusal and its text line.
+// A refused text: its refusal, and the text line that it names, 0 where it names none.
 #[derive(Clone, Copy)]
-pub enum TextVerdict {
-    Good(usize),
-    Refused(TextRefusal, u32),
-}
-
-// The length of what was written; or the refusal and its text line.
-#[derive(Clone, Copy)]
-pub enum TextAnswer {
-    Written(usize),
-    Refused(TextRefusal, u32),
+pub struct RefusedText {
+    pub refusal: TextRefusal,
+    pub line: u32,
 }

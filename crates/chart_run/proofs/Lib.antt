@@ -1,2 +1,1 @@
 pub mod Averages
-pub mod Held

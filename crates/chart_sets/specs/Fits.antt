@@ -1,6 +1,6 @@
 -- For the proofs of the code, no rule: what it needs of a set to work in 32 bits.
 use Rattle.std.specs.Prelude.{◌≤◌, List, [], ◌∷◌}
-use Rattle.whole.specs.Parts.{Within}
+use Rattle.whole.specs.Bounds.{Within}
 use Rattle.chart_rules.specs.declared.ChartSet.{ChartSet}
 
 -- what the code needs of a sound set

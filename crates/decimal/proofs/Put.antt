@@ -1,11 +1,12 @@
 -- The laws of `Put`: one byte, one writer after another, and a whole buffer.
 use mathlib.Core.Path.{◌≡◌, refl, sym, ap, ◌∙◌, subst}
-use mathlib.Core.List.{List, [], ◌∷◌, ◌++◌}
+use mathlib.Core.List.{List, [], ◌∷◌, ◌++◌, append_assoc}
 use Prim.Native.Nat.{ℕ, suc, ◌+◌, ◌≤◌}
 use native.Mathlib.Nat.{add-zero, add-suc, suc-add, zero-add}
 use native.Mathlib.Omega.{arith}
-use lib.ListN.{length, drop, set, length-append}
-use lib.Seq.{sets, sets-eq, length-sets}
+use lib.ListN.{length, take, drop, set, length-append}
+use lib.Seq.{sets, sets-eq, length-sets, drop-drop}
+use borrow.Rule.Slice.PartMut.{put_mid}
 use Rattle.decimal.specs.Put.{Put, overwritten}
 
 module _ {A : Type 0} where
@@ -19,6 +20,10 @@ module _ {A : Type 0} where
   pub put_byte : (old : List A) (at : ℕ) (b : A) → Put old at (b ∷ []) (set old at b) (at + 1)
   put_byte old at b = record { written = refl; behind = refl }
 
+  -- nothing
+  pub put_none : (old : List A) (at : ℕ) → Put old at [] old at
+  put_none old at = record { written = refl; behind = omega arith }
+
   -- one after another
   pub put_then : {old mid new a b : List A} {at k n : ℕ} → Put old at a mid k → Put mid k b new n → Put old at (a ++ b) new n
   put_then {old} {mid} {new} {a} {b} {at} {k} {n} p q =
@@ -29,6 +34,19 @@ module _ {A : Type 0} where
             ∙ ap (λ (j : ℕ). sets (sets old at a) j b) p.behind
             ∙ sets_append a b old at;
         behind = omega (arith, p.behind, q.behind, length-append a b);
+      }
+
+  -- a part of the buffer written over
+  pub put_part : (old part what : List A) (at k : ℕ) → at + length what ≤ length old → part ≡ what → k ≡ length what
+      → Put old at what (put_mid at k old part) (at + length what)
+  put_part old part what at k h e n =
+      record {
+        written =
+            (λ i. take at old ++ (e i ++ drop (n i) (drop at old)))
+            ∙ ap (λ (l : List A). take at old ++ (what ++ l)) (drop-drop (length what) at old)
+            ∙ sym (append_assoc (take at old) what _)
+            ∙ sym (sets-eq what old at h);
+        behind = refl;
       }
 
   -- the same, said otherwise

@@ -1,4 +1,6 @@
 // Writes bytes, numbers and flags into a buffer, each writer from a position on: it gives the position behind what it wrote.
+// Buffer and position stay two parameters: as a struct with methods each contract had to say besides that the struct still holds
+// the same buffer, which is no plainer. The library's write! into a slice doesn't say which bytes it wrote.
 
 #![tactic(auto)]
 
@@ -38,28 +40,13 @@ pub fn put_field(out: &mut [u8], at: usize, n: u32) -> usize
     put_number(out, next, n)
 }
 
-// 1 or 0.
-fn flag_byte(flag: bool) -> u8
-    ensures { result ≡ bit flag }
-{
-    if flag { b'1' } else { b'0' }
-}
-
 // A space, and 1 or 0.
 pub fn put_flag(out: &mut [u8], at: usize, flag: bool) -> usize
     requires { at + 2 ≤ length out.old }
     ensures { Put out.old at (32 ∷ bit flag ∷ []) out.new result }
 {
     let next = put_byte(out, at, b' ');
-    put_byte(out, next, flag_byte(flag))
-}
-
-// z without its sign.
-fn magnitude(z: i32) -> u32
-    requires { nat_abs z < 100000 }
-    ensures { result ≡ nat_abs z }
-{
-    if z < 0 { (0 - z) as u32 } else { z as u32 }
+    put_byte(out, next, b'0' + u8::from(flag))
 }
 
 // A space, and z in decimal, with a minus sign below zero.
@@ -68,7 +55,7 @@ pub fn put_signed(out: &mut [u8], at: usize, z: i32) -> usize
     requires at_in_bounds { at + 7 ≤ length out.old }
     ensures { Put out.old at (32 ∷ show_signed z) out.new result }
 {
-    let n = magnitude(z);
+    let n = z.unsigned_abs();
     if z < 0 {
         let sign = put_byte(out, at, b' ');
         let next = put_byte(out, sign, b'-');
@@ -83,12 +70,7 @@ pub fn put_bytes(out: &mut [u8], at: usize, bytes: &[u8]) -> usize
     requires { at + length bytes.now ≤ length out.old }
     ensures { Put out.old at bytes.now out.new result }
 {
-    let mut i = 0;
-    let mut next = at;
-    while i < bytes.len() {
-        out[next] = bytes[i];
-        next += 1;
-        i += 1;
-    }
-    next
+    let end = at + bytes.len();
+    out[at..end].copy_from_slice(bytes);
+    end
 }

@@ -1,6 +1,6 @@
 -- For the proofs of the code, no rule: what a sound station's line gives, so that nothing wraps (docs/SPECIFICATION.md, "Refused calls").
 use Rattle.std.specs.Prelude.{ℕ, ◌≤◌, ◌<◌, T, take}
-use Rattle.whole.specs.Parts.{Within}
+use Rattle.whole.specs.Bounds.{Within}
 use Rattle.station_rules.specs.Soundness.{days_fall}
 use Rattle.line_past.specs.Ranges.{Held}
 use Rattle.station_rules.specs.declared.Line.{Line}

@@ -1,2 +1,2 @@
+pub mod DueLaws
 pub mod RangeLaws
-pub mod OrderLaws

@@ -1,32 +1,30 @@
--- Sums and tests within their ranges.
-use mathlib.Core.Path.{◌≡◌, refl, subst⁻¹}
-use Prim.Native.Nat.{ℕ, ◌+◌, ◌*◌, ◌≤◌}
-use native.Mathlib.Nat.{le_trans, mul-le-mul_left, mul-le-mul_right}
+-- Sets together within their ranges.
+use mathlib.Core.Path.{◌≡◌, subst⁻¹}
+use mathlib.Core.List.{List}
+use Prim.Native.Nat.{ℕ, ◌+◌, ◌<◌}
 use native.Mathlib.Omega.{arith}
+use Rattle.std.proofs.lemmas.Int.{ints}
 use lib.Dec.{T, leb}
-use Rattle.whole.proofs.PartLaws.{sum}
-use Rattle.station_rules.specs.Lines.{test_of, plus}
+use lib.ListN.{length, get_or}
+use Rattle.station_rules.specs.Lines.{plus}
+use Rattle.station_rules.specs.Held.{no_set}
 use Rattle.station_rules.specs.declared.Set.{Set}
-use Rattle.station_rules.specs.declared.Test.{Test}
 use Rattle.station_rules.specs.declared.PastSet.{PastSet}
-use Rattle.line_past.specs.Ranges.{SetsOf}
+use Rattle.line_past.specs.Ranges.{SetsOf, Held}
 use Rattle.line_past.proofs.RangeLaws.{of_more}
-use Rattle.line_averages.specs.Ranges.{TestFits, Joined}
+use Rattle.line_averages.specs.Ranges.{Together}
 
-pub product_le : (t : Test) → TestFits t → t.limit * t.count ≤ 60000
-product_le t h = le_trans (mul-le-mul_left t.limit h.sets.few) (mul-le-mul_right 60 h.limit)
+-- fewer sets are in the range of more
+pub together_more : (j k : ℕ) {set : Set} → T (leb j k) → Together j set → Together k set
+together_more j k t s = record { sets = of_more j k t s.sets; some = s.some }
 
--- the definition's own sum
-pub plus_joined : (set : Set) (p : PastSet) → Joined set p (plus set p)
-plus_joined set p = let s = sum set.sum p.sum in record { is = refl; high = s.high; low = s.low; count = refl }
+module _ (valid : List PastSet) (held : Held (length valid) valid) (i : ℕ) (h : i < length valid) where
+  pub past_fits : SetsOf 1 (get_or valid i no_set).sum (get_or valid i no_set).count
+  past_fits = (held.each i h).set
 
--- one set more
-pub join_fits : (k : ℕ) (set : Set) (p : PastSet) {r : Set} → SetsOf k set.sum set.count → SetsOf 1 p.sum p.count → Joined set p r → SetsOf (k + 1) r.sum r.count
-join_fits k set p s q j = record { within = omega arith; few = omega arith }
-
-pub join_some : (set : Set) (p : PastSet) {r : Set} → 1 ≤ set.count → Joined set p r → 1 ≤ r.count
-join_some set p h j = omega arith
-
--- a test made of sets
-pub test_fits : (limit k : ℕ) (set : Set) {t : Test} → t ≡ test_of limit set → limit ≤ 1000 → T (leb k 5) → SetsOf k set.sum set.count → 1 ≤ set.count → TestFits t
-test_fits limit k set e h t s c = subst⁻¹ TestFits e (record { limit = h; sets = of_more k 5 t s; some = c })
+  -- a past set more
+  pub join_fits : (k : ℕ) {set r : Set} → Together k set → r ≡ plus set (get_or valid i no_set) → Together (k + 1) r
+  join_fits k s e =
+      let f = past_fits in
+      subst⁻¹ (Together (k + 1)) e
+      (record { sets = record { within = record { over = omega (arith, ints); under = omega (arith, ints) }; few = omega arith }; some = omega arith })

@@ -1,4 +1,3 @@
-pub mod Arrays
 pub mod SideLaws
 pub mod RangeLaws
 pub mod ValidLaws

@@ -3,6 +3,7 @@ use mathlib.Core.List.{List}
 use Prim.Native.Nat.{ℕ, ◌≤◌}
 use native.Mathlib.Nat.{mul-le-mul_right}
 use native.Mathlib.Omega.{arith}
+use Rattle.std.proofs.lemmas.Int.{ints}
 use lib.Dec.{T, leb, leb→le}
 use lib.IntN.{ℤ}
 use Rattle.station_rules.specs.declared.PastSet.{PastSet}
@@ -14,7 +15,7 @@ of_more j k t s =
     let h = leb→le j k t in
     let a = mul-le-mul_right 132000 h in
     let b = mul-le-mul_right 12 h in
-    record { within = omega arith; few = omega arith }
+    record { within = record { over = omega (arith, ints); under = omega (arith, ints) }; few = omega arith }
 
 pub held_less : {j k : ℕ} {past : List PastSet} → j ≤ k → Held k past → Held j past
 held_less {j} {k} h e = record { each = λ i l. e.each i (omega arith) }

@@ -1,30 +1,34 @@
--- The valid past sets stand first, and their count is a pass over the past.
+-- The valid past sets stand first, and how many they are.
 use mathlib.Core.Path.{◌≡◌, refl, sym, ap, ◌∙◌}
-use mathlib.Core.Bool.{cond}
+use mathlib.Core.Bool.{Bool, true, false, cond}
 use mathlib.Core.List.{List, [], ◌∷◌}
-use Prim.Native.Nat.{ℕ, ◌+◌}
+use Prim.Native.Nat.{ℕ, ◌+◌, ◌-◌}
 use native.Mathlib.Omega.{arith}
 use lib.Dec.{T, leb}
 use lib.ListN.{length, take}
 use borrow.Author.Tests.{leb-false}
+use Rattle.std.specs.List.{count_by}
+use Rattle.std.proofs.lemmas.List.Recursion.{is_count_by}
 use Rattle.whole.proofs.Tests.{and_r}
 use Rattle.whole.proofs.ListLaws.{by_test}
-use Rattle.whole.proofs.Fold.{fold}
 use Rattle.station_rules.specs.Lines.{valid_on}
 use Rattle.station_rules.specs.Soundness.{days_fall}
 use Rattle.station_rules.proofs.NewestFour.{none_valid}
 use Rattle.station_rules.specs.declared.PastSet.{PastSet}
-use Rattle.line_past.specs.Valid.{count_if_valid}
 
-count_from : (day k : ℕ) (ps : List PastSet) → fold (count_if_valid day) k ps ≡ k + length (valid_on day ps)
-unfolding fold valid_on
-count_from day k [] = omega arith
-count_from day k (p ∷ ps) =
-    by_test (leb day (p.day + 14)) (λ b. fold (count_if_valid day) (cond b (k + 1) k) ps ≡ k + length (cond b (p ∷ valid_on day ps) (valid_on day ps)))
-    (λ e. omega (arith, count_from day (k + 1) ps)) (λ e. count_from day k ps)
+-- at most 14 days old: no older than the day 14 days before
+same_age : (day d : ℕ) → leb (day - 14) d ≡ leb day (d + 14)
+same_age day d = grind arith
 
-pub count_fold : (day : ℕ) (ps : List PastSet) → fold (count_if_valid day) 0 ps ≡ length (valid_on day ps)
-count_fold day ps = omega (arith, count_from day 0 ps)
+length_cond : (b : Bool) (p : PastSet) (ps : List PastSet) → length (cond b (p ∷ ps) ps) ≡ cond b (1 + length ps) (length ps)
+length_cond true p ps = omega arith
+length_cond false p ps = refl
+
+pub count_valid : (day : ℕ) (ps : List PastSet) → length (valid_on day ps) ≡ count_by (λ p. leb (day - 14) p.day) ps
+unfolding valid_on
+count_valid day ps =
+    is_count_by (λ ps. length (valid_on day ps)) (λ p. leb (day - 14) p.day) refl
+    (λ p ps. rw (same_age day p.day) (length_cond (leb day (p.day + 14)) p (valid_on day ps))) ps
 
 pub valid_first : (day d : ℕ) (ps : List PastSet) → T (days_fall d ps) → valid_on day ps ≡ take (length (valid_on day ps)) ps
 unfolding valid_on

@@ -1,6 +1,6 @@
 -- For the proofs of the code, no rule: the ranges of S and N in which nothing wraps (docs/SPECIFICATION.md, "Refused calls": N is at most twice six samples, |S| at most 11000 times N).
 use Rattle.std.specs.Prelude.{List, ℕ, ◌*◌, ◌≤◌, ◌<◌, ℤ, get_or}
-use Rattle.whole.specs.Parts.{Within}
+use Rattle.whole.specs.Bounds.{Within}
 use Rattle.station_rules.specs.Held.{no_set}
 use Rattle.station_rules.specs.declared.PastSet.{PastSet}
 

@@ -2,33 +2,39 @@
 
 #![tactic(auto)]
 
-pub mod sides;
-
-ghost use Rattle.std.specs.Prelude.{◌≡◌, ◌+◌, ◌≤◌, take, length};
+ghost use Rattle.std.specs.Prelude.{◌≡◌, ◌≤◌, ◌&&◌, ◌||◌, length};
+ghost use Rattle.whole.specs.Lists.{all, above, below};
 ghost use Rattle.station_rules.specs.Lines.{valid_on};
-ghost use Rattle.line_past.specs.Ranges.{Held};
-ghost use Rattle.line_past.specs.Valid.{count_if_valid};
 
-use station_rules::{HELD_SETS, PAST_DAYS, PastSet};
+use station_rules::{PAST_DAYS, PastSet, Set};
 
-// One more, where the past set is at most 14 days old.
-fn count_if_valid(k: usize, day: u32, p: PastSet) -> usize
-    requires { (p.day ≤ 99999) × (k ≤ 4) }
-    ensures { (result ≡ count_if_valid day k p) × (result ≤ k + 1) }
+// How many past sets are valid on a day: at most 14 days old.
+#[tactic(auto, using(crate::proofs::ValidLaws::count_valid))]
+pub fn valid_count(day: u32, past: &[PastSet]) -> usize
+    ensures { (result ≡ length (valid_on day past.now)) × (result ≤ length past.now) }
 {
-    if day <= p.day + PAST_DAYS { k + 1 } else { k }
+    past.iter()
+        .filter(|p| day.saturating_sub(PAST_DAYS) <= p.day)
+        .count()
 }
 
-// How many past sets are valid on a day.
-pub fn valid_count(day: u32, held: usize, past: [PastSet; HELD_SETS]) -> usize
-    requires { (held ≤ 4) × (Held held past) }
-    ensures { (result ≡ length (valid_on day (take held past))) × (result ≤ held) }
+// The two sides stay two functions: with both `all` in `on_one_side` the proof doesn't close.
+fn all_above(past: &[PastSet]) -> bool
+    ensures { result ≡ all (λ p. above p.sum) past.now }
 {
-    let mut k = 0;
-    let mut i = 0;
-    while i < held {
-        k = count_if_valid(k, day, past[i]);
-        i += 1;
-    }
-    k
+    past.iter().all(|p| 0 < p.sum)
+}
+
+fn all_below(past: &[PastSet]) -> bool
+    ensures { result ≡ all (λ p. below p.sum) past.now }
+{
+    past.iter().all(|p| p.sum < 0)
+}
+
+// Whether a set and past sets lie on one side of zero. Zero breaks it.
+#[tactic(auto, using(crate::proofs::SideLaws::by_side))]
+pub fn on_one_side(set: Set, past: &[PastSet]) -> bool
+    ensures { result ≡ (above set.sum && all (λ p. above p.sum) past.now || below set.sum && all (λ p. below p.sum) past.now) }
+{
+    0 < set.sum && all_above(past) || set.sum < 0 && all_below(past)
 }

@@ -3,25 +3,22 @@
 #![tactic(auto)]
 
 ghost use Rattle.std.specs.Prelude.{◌≡◌};
-ghost use Rattle.whole.specs.Parts.{Within};
+ghost use Rattle.whole.specs.Bounds.{Within};
 ghost use Rattle.station_rules.specs.Lines.{adjust_by, verdict_of, change_of};
 ghost use Rattle.station_rules.specs.Held.{line_values};
 ghost use Rattle.line_past.specs.Ranges.{SetsOf};
 ghost use Rattle.line_averages.specs.Ranges.{Limited};
 ghost use Rattle.line.specs.Ranges.{LineFits};
 
-use line_averages::Found;
 use station_rules::{INTERCEPT_BOUND, Limits, Line, Set, Verdict};
-use whole::Int;
 
 // Subtract the average from the intercept; where that would leave -1000..1000 the line is shut instead.
-fn adjust(intercept: Int, average: Int) -> Verdict
-    requires { (Within 1000 1000 intercept.z) × (Within 2000000 2000000 average.z) }
-    ensures { (result ≡ adjust_by intercept.z average.z) × Within 2000000 2000000 (change_of result) }
+fn adjust(intercept: i32, average: i32) -> Verdict
+    requires { (Within 1000 1000 intercept) × (Within 2000000 2000000 average) }
+    ensures { (result ≡ adjust_by intercept average) × Within 2000000 2000000 (change_of result) }
 {
-    if whole::size_at_most(whole::sub(intercept, average), INTERCEPT_BOUND) {
-        let change = whole::neg(average);
-        Verdict::Adjusted(change.z)
+    if (intercept - average).unsigned_abs() <= INTERCEPT_BOUND {
+        Verdict::Adjusted(-average)
     } else {
         Verdict::Shut
     }
@@ -36,13 +33,10 @@ pub fn verdict_on(limits: Limits, l: Line, day: u32, set: Set) -> Verdict
     if set.count == 0 {
         return Verdict::Shut;
     }
-    let past = l.past;
-    let k = line_past::valid_count(day, l.held as usize, past);
-    match line_averages::first_exceeded(limits, l.phase, set, k, past) {
-        Found::Exceeded(t) => adjust(
-            Int { z: l.intercept },
-            whole::rounded(Int { z: t.sum }, t.count),
-        ),
-        Found::Nothing => Verdict::Met,
+    let past = &l.past[..l.held as usize];
+    let valid = &past[..line_past::valid_count(day, past)];
+    match line_averages::first_exceeded(limits, l.phase, set, valid) {
+        Some(t) => adjust(l.intercept, whole::rounded(t.sum, t.count)),
+        None => Verdict::Met,
     }
 }

@@ -3,98 +3,77 @@
 
 #![tactic(auto)]
 
-ghost use Rattle.std.specs.Prelude.{◌≡◌, ◌≤◌};
+ghost use Rattle.std.specs.Prelude.{◌≡◌};
 ghost use Rattle.station_rules.specs.Held.{line_values};
 ghost use Rattle.station_rules.specs.Places.{station_in};
 ghost use Rattle.station_rules.specs.InPlace.{market_in};
 ghost use Rattle.line.specs.Ranges.{LineFits};
-ghost use Rattle.market.specs.Answers.{read_of, floated_of, tested_of, answered_of};
+ghost use Rattle.market.specs.Answers.{tested_of, answered_of};
 
-use market_scan::Picked;
-use reading::Reading;
-use station_rules::{Asked, BASIS_BOUND, Basis, LARGEST, Line, MarketAnswer, Refusal, Scan};
-use whole::Int;
+use station_rules::{Asked, BASIS_BOUND, Basis, Certificate, LARGEST, Line, Refusal, Scan};
 
-// Numbers 10 to 12, 25, 26, 13 and 14, of a reading n.
-fn judge_reading(row: u32, l: Line, day: u32, n: u32, asked: Asked, basis: Basis) -> MarketAnswer
-    requires { (n ≤ 10000) × (LineFits l) }
-    ensures { result ≡ read_of row (line_values l) day n asked basis }
+// What a call asks: a line's market test on a day.
+#[derive(Clone, Copy)]
+struct Request {
+    day: u32,
+    line: usize,
+    scan: Scan,
+    asked: Asked,
+    basis: Basis,
+}
+
+// Numbers 8, 23, 24, 9 to 12, 25, 26, 13 and 14. The row is a number, as C hands it in and the places hold it.
+fn judge(row: u32, l: Line, request: &Request) -> Result<Certificate, Refusal>
+    requires { LineFits l }
+    ensures { result ≡ tested_of row (line_values l) request.now.day request.now.line request.now.scan request.now.asked request.now.basis }
 {
+    let Request {
+        day,
+        line,
+        scan,
+        asked,
+        basis,
+    } = *request;
+    let x = market_scan::pick(row, scan, asked, line).ok_or(Refusal::WrongScan)?;
+    if market_asked::is_other_class(asked) {
+        return Err(Refusal::GlutenClass);
+    }
+    if market_asked::is_other_basis(asked, basis) {
+        return Err(Refusal::GlutenBasis);
+    }
+    let reading = reading::reading(x).ok_or(Refusal::BadFloat)?;
     let a = market_asked::basis_from(row, asked);
     let b = market_figures::basis_value(a, basis);
     if !market_figures::up_to(BASIS_BOUND, b) {
-        return MarketAnswer::Refused(Refusal::BadBasis);
+        return Err(Refusal::BadBasis);
     }
-    let i = market_asked::intercept_of(asked, Int { z: l.intercept });
-    let h = whole::add(whole::of_u32(n), i);
+    let i = market_asked::intercept_of(asked, l.intercept);
+    let h = reading as i32 + i;
     if !market_figures::up_to(LARGEST, h) {
-        return MarketAnswer::Refused(Refusal::BadValue);
+        return Err(Refusal::BadValue);
     }
     market_certificate::certify(a, l, day, i, b, h)
 }
 
-// Numbers 23, 24, 9 to 12, 25, 26, 13 and 14, of the float asked for.
-fn judge_float(row: u32, l: Line, day: u32, x: f32, asked: Asked, basis: Basis) -> MarketAnswer
-    requires { LineFits l }
-    ensures { result ≡ floated_of row (line_values l) day x asked basis }
-{
-    if market_asked::is_other_class(asked) {
-        return MarketAnswer::Refused(Refusal::GlutenClass);
-    }
-    if market_asked::is_other_basis(asked, basis) {
-        return MarketAnswer::Refused(Refusal::GlutenBasis);
-    }
-    match reading::reading(x) {
-        Reading::Refused => MarketAnswer::Refused(Refusal::BadFloat),
-        Reading::Hundredths(n) => judge_reading(row, l, day, n, asked, basis),
-    }
-}
-
-// Numbers 8, 23, 24, 9 to 12, 25, 26, 13 and 14.
-fn judge_scan(
-    row: u32,
-    l: Line,
-    day: u32,
-    line: usize,
-    scan: Scan,
-    asked: Asked,
-    basis: Basis,
-) -> MarketAnswer
-    requires { LineFits l }
-    ensures { result ≡ tested_of row (line_values l) day line scan asked basis }
-{
-    match market_scan::pick(row, scan, asked, line) {
-        Picked::Wrong => MarketAnswer::Refused(Refusal::WrongScan),
-        Picked::Value(x) => judge_float(row, l, day, x, asked, basis),
-    }
-}
-
-// All numbers of a market test: 0, 2, 3, 8, 23, 24, 9 to 12, 25, 26, 13 and 14.
-fn answer(
-    state: &[i32],
-    day: u32,
-    line: usize,
-    scan: Scan,
-    asked: Asked,
-    basis: Basis,
-) -> MarketAnswer
-    ensures { result ≡ answered_of (station_in state.now) day line scan asked basis }
+// All numbers of a market test: 0, 2, 3, and those of the test.
+fn answer(state: &[i32], request: &Request) -> Result<Certificate, Refusal>
+    ensures { result ≡ answered_of (station_in state.now) request.now.day request.now.line request.now.scan request.now.asked request.now.basis }
 {
     if !station_soundness::is_sound(state) {
-        return MarketAnswer::Refused(Refusal::UnsoundStation);
+        return Err(Refusal::UnsoundStation);
     }
-    if station_soundness::is_bad_day(station_places::day_of(state), day) {
-        return MarketAnswer::Refused(Refusal::BadDay);
+    if station_soundness::is_bad_day(station_places::day_of(state), request.day) {
+        return Err(Refusal::BadDay);
     }
     let row = station_places::row_of(state);
-    if row_table::line_count(row) <= line {
-        return MarketAnswer::Refused(Refusal::UnknownLine);
+    if row_table::line_count(row) <= request.line {
+        return Err(Refusal::UnknownLine);
     }
-    let l = station_places::line_of(state, line);
-    judge_scan(row, l, day, line, scan, asked, basis)
+    judge(row, station_places::line_of(state, request.line), request)
 }
 
 // A certificate moves the station's day, and nothing else is written; a refusal writes nothing.
+#[tactic(auto, using(crate::proofs::AnswerLaws::certified_first, crate::proofs::AnswerLaws::certified_left, crate::proofs::AnswerLaws::refused_left))]
 pub fn market(
     state: &mut [i32],
     day: u32,
@@ -102,15 +81,17 @@ pub fn market(
     scan: Scan,
     asked: Asked,
     basis: Basis,
-) -> MarketAnswer
+) -> Result<Certificate, Refusal>
     ensures { record { answer = result; places = state.new } ≡ market_in state.old day line scan asked basis }
 {
-    let given = answer(state, day, line, scan, asked, basis);
-    match given {
-        MarketAnswer::Certified(c) => {
-            station_places::put_day(state, day);
-            MarketAnswer::Certified(c)
-        }
-        MarketAnswer::Refused(r) => MarketAnswer::Refused(r),
-    }
+    let request = Request {
+        day,
+        line,
+        scan,
+        asked,
+        basis,
+    };
+    let certificate = answer(state, &request)?;
+    station_places::put_day(state, day);
+    Ok(certificate)
 }

@@ -3,42 +3,29 @@
 #![tactic(auto)]
 
 ghost use Rattle.std.specs.Prelude.{◌≡◌};
-ghost use Rattle.whole.specs.Parts.{Within};
+ghost use Rattle.whole.specs.Bounds.{Within};
 ghost use Rattle.station_rules.specs.Markets.{basis_from, derived_intercept, asked_intercept, other_class, other_basis};
 
 use station_rules::{Asked, Basis, GLUTEN_BASIS, GLUTEN_FACTOR, THOUSAND, WheatClass};
-use whole::Int;
 
 // Gluten is asked with another class than the hard red ones.
+#[tactic(auto, unfolding(station_rules::specs::Markets::other_class))]
 pub fn is_other_class(asked: Asked) -> bool
     ensures { result ≡ other_class asked }
 {
-    match asked {
-        Asked::LineFigure => false,
-        Asked::Gluten(class) => match class {
-            WheatClass::HardRedWinter => false,
-            WheatClass::HardRedSpring => false,
-            WheatClass::Other => true,
-        },
-    }
+    matches!(asked, Asked::Gluten(WheatClass::Other))
 }
 
 // Gluten is asked with a basis not asked for as standard.
+#[tactic(auto, unfolding(station_rules::specs::Markets::other_basis))]
 pub fn is_other_basis(asked: Asked, basis: Basis) -> bool
     ensures { result ≡ other_basis asked basis }
 {
-    match asked {
-        Asked::LineFigure => false,
-        Asked::Gluten(_) => match basis {
-            Basis::Standard => false,
-            Basis::Dry => true,
-            Basis::Specified(_) => true,
-            Basis::AsIs(_) => true,
-        },
-    }
+    matches!(asked, Asked::Gluten(_)) && !matches!(basis, Basis::Standard)
 }
 
-// A: the row's standard basis, or gluten's.
+// A: the row's standard basis, or gluten's. The row is a number, as C hands it in and the places hold it.
+#[tactic(auto, unfolding(station_rules::specs::Markets::basis_from))]
 pub fn basis_from(row: u32, asked: Asked) -> u32
     ensures { result ≡ basis_from row asked }
 {
@@ -49,17 +36,19 @@ pub fn basis_from(row: u32, asked: Asked) -> u32
 }
 
 // The gluten intercept, from the protein line's whole intercept.
-fn derived_intercept(intercept: Int) -> Int
-    requires { Within 1000 1000 intercept.z }
-    ensures { (result.z ≡ derived_intercept intercept.z) × Within 20000000 20000000 result.z }
+#[tactic(auto, unfolding(station_rules::specs::Markets::derived_intercept))]
+fn derived_intercept(intercept: i32) -> i32
+    requires { Within 1000 1000 intercept }
+    ensures { (result ≡ derived_intercept intercept) × Within 20000000 20000000 result }
 {
-    whole::rounded(whole::mul(intercept, Int { z: GLUTEN_FACTOR }), THOUSAND)
+    whole::rounded(intercept * GLUTEN_FACTOR, THOUSAND)
 }
 
 // The line's intercept, or gluten's.
-pub fn intercept_of(asked: Asked, intercept: Int) -> Int
-    requires { Within 1000 1000 intercept.z }
-    ensures { (result.z ≡ asked_intercept asked intercept.z) × Within 20000000 20000000 result.z }
+#[tactic(auto, unfolding(station_rules::specs::Markets::asked_intercept))]
+pub fn intercept_of(asked: Asked, intercept: i32) -> i32
+    requires { Within 1000 1000 intercept }
+    ensures { (result ≡ asked_intercept asked intercept) × Within 20000000 20000000 result }
 {
     match asked {
         Asked::LineFigure => intercept,

@@ -5,60 +5,46 @@
 ghost use Rattle.std.specs.Prelude.{◌≡◌, true, ◌<◌};
 ghost use Rattle.station_rules.specs.Held.{phase_word, line_values};
 ghost use Rattle.station_rules.specs.Markets.{within};
-ghost use Rattle.whole.specs.Parts.{Within};
+ghost use Rattle.whole.specs.Bounds.{Within};
 ghost use Rattle.line.specs.Ranges.{LineFits};
-ghost use Rattle.market_certificate.specs.Certified.{certified_open, refusal_by, certified_of};
+ghost use Rattle.market_certificate.specs.Certified.{opened, certified_of};
 
-use station_rules::{
-    ADJUSTED_LINE, Certificate, Line, MarketAnswer, NEW_LINE, NEWEST_DAYS, OPEN_LINE, Refusal,
-};
-use whole::Int;
+use station_rules::{ADJUSTED_LINE, Certificate, Line, NEW_LINE, NEWEST_DAYS, OPEN_LINE, Refusal};
 
-// Numbers 13 and 14 of an open line, and its certificate.
-fn certify_open(a: u32, l: Line, day: u32, i: Int, b: Int, h: Int) -> MarketAnswer
-    requires a_bound { (a < 10000) × ((LineFits l) × (Within 20000000 20000000 i.z)) }
-    requires z_value { (within 0 5000 b.z ≡ true) × (within 0 10000 h.z ≡ true) }
-    ensures { result ≡ certified_open a (line_values l) day i.z b.z h.z }
+// Numbers 12, 25 and 26: a line that isn't open is refused by its phase; there are no more than these four (number 0). The phase is a code, as the places hold it for C.
+fn check_open(phase: u32) -> Result<(), Refusal>
+    ensures { result ≡ opened (phase_word phase) }
 {
-    let past = l.past;
-    let newest = market_figures::newest_day(l.held, past);
-    if newest + NEWEST_DAYS < day {
-        return MarketAnswer::Refused(Refusal::OldSet);
+    match phase {
+        OPEN_LINE => Ok(()),
+        NEW_LINE => Err(Refusal::NewLine),
+        ADJUSTED_LINE => Err(Refusal::AdjustedLine),
+        _ => Err(Refusal::ShutLine),
     }
-    let basis = whole::to_u32(b);
-    let value = whole::to_u32(h);
+}
+
+// By the intercept i, the basis B and the corrected value h. Always inlined: called, it would have the whole line copied for it.
+#[inline(always)]
+pub fn certify(a: u32, l: Line, day: u32, i: i32, b: i32, h: i32) -> Result<Certificate, Refusal>
+    requires a_bound { (a < 10000) × ((LineFits l) × (Within 20000000 20000000 i)) }
+    requires z_value { (within 0 5000 b ≡ true) × (within 0 10000 h ≡ true) }
+    ensures { result ≡ certified_of a (line_values l) day i b h }
+{
+    check_open(l.phase)?;
+    let newest = market_figures::newest_day(&l.past[..l.held as usize]);
+    if newest < day.saturating_sub(NEWEST_DAYS) {
+        return Err(Refusal::OldSet);
+    }
+    let basis = b.unsigned_abs();
+    let value = h.unsigned_abs();
     if market_figures::is_too_high(a, basis, value) {
-        return MarketAnswer::Refused(Refusal::TooHigh);
+        return Err(Refusal::TooHigh);
     }
-    MarketAnswer::Certified(Certificate {
+    Ok(Certificate {
         day: newest,
-        intercept: i.z,
-        basis: b.z,
+        intercept: i,
+        basis: b,
         figure: market_figures::in_tenths(value),
         converted: market_figures::in_tenths_at(a, basis, value),
     })
-}
-
-// Numbers 12, 25 and 26: the refusal of a line that isn't open, by its phase; none but these three come here (number 0).
-fn not_open(phase: u32) -> Refusal
-    ensures { result ≡ refusal_by (phase_word phase) }
-{
-    match phase {
-        NEW_LINE => Refusal::NewLine,
-        ADJUSTED_LINE => Refusal::AdjustedLine,
-        _ => Refusal::ShutLine,
-    }
-}
-
-// By the intercept i, the basis B and the corrected value h.
-#[tactic(auto, using(crate::proofs::CertifiedLaws::open_line_is))]
-pub fn certify(a: u32, l: Line, day: u32, i: Int, b: Int, h: Int) -> MarketAnswer
-    requires a_bound { (a < 10000) × ((LineFits l) × (Within 20000000 20000000 i.z)) }
-    requires z_value { (within 0 5000 b.z ≡ true) × (within 0 10000 h.z ≡ true) }
-    ensures { result ≡ certified_of a (line_values l) day i.z b.z h.z }
-{
-    if l.phase == OPEN_LINE {
-        return certify_open(a, l, day, i, b, h);
-    }
-    MarketAnswer::Refused(not_open(l.phase))
 }

@@ -1,4 +1,4 @@
-// What the analyser answered: the float asked for.
+// What the analyser answered: the float asked for. No methods of `Scan`: its crate, `station_rules`, has types and no code.
 
 #![tactic(auto)]
 
@@ -8,75 +8,45 @@ ghost use Rattle.market_scan.specs.Scans.{line_picked, gluten_picked, picked_of}
 
 use station_rules::{Asked, CornSet, OIL, PROTEIN, Scan, WHEAT};
 
-#[derive(Clone, Copy)]
-pub enum Picked {
-    Value(f32),
-    Wrong,
-}
-
 // The corn set's float of a line: protein, oil, starch.
+#[tactic(auto, unfolding(station_rules::specs::Readings::corn_float))]
 fn corn_value(c: CornSet, line: usize) -> f32
     ensures { result ≡ corn_float c line }
 {
-    if line == PROTEIN {
-        return c.protein;
+    match line {
+        PROTEIN => c.protein,
+        OIL => c.oil,
+        _ => c.starch,
     }
-    if line == OIL {
-        return c.oil;
-    }
-    c.starch
 }
 
-// The scan's float of a line, where the scan is of the row's grain.
-fn line_float(row: u32, scan: Scan, line: usize) -> Picked
+// The scan's float of a line, where the scan is of the row's grain. The row is a number, as C hands it in and the places hold it.
+#[tactic(auto, unfolding(crate::specs::Scans::line_picked, station_rules::specs::Readings::scan_fits, station_rules::specs::Readings::line_float))]
+fn line_float(row: u32, scan: Scan, line: usize) -> Option<f32>
     ensures { result ≡ line_picked row scan line }
 {
     match scan {
-        Scan::Wheat(x) => {
-            if row == WHEAT {
-                Picked::Value(x)
-            } else {
-                Picked::Wrong
-            }
-        }
-        Scan::Corn(c) => {
-            if row == WHEAT {
-                Picked::Wrong
-            } else {
-                Picked::Value(corn_value(c, line))
-            }
-        }
-        Scan::Fault(_) => Picked::Wrong,
-        Scan::WheatGluten(w) => {
-            if row == WHEAT {
-                Picked::Value(w.protein)
-            } else {
-                Picked::Wrong
-            }
-        }
+        Scan::Wheat(x) if row == WHEAT => Some(x),
+        Scan::WheatGluten(w) if row == WHEAT => Some(w.protein),
+        Scan::Corn(c) if row != WHEAT => Some(corn_value(c, line)),
+        _ => None,
     }
 }
 
 // The scan's gluten float, where there is one and the row is wheat's.
-fn gluten_float(row: u32, scan: Scan) -> Picked
+#[tactic(auto, unfolding(crate::specs::Scans::gluten_picked, station_rules::specs::Readings::scan_fits, station_rules::specs::Readings::brings_gluten, station_rules::specs::Readings::gluten_float))]
+fn gluten_float(row: u32, scan: Scan) -> Option<f32>
     ensures { result ≡ gluten_picked row scan }
 {
     match scan {
-        Scan::Wheat(_) => Picked::Wrong,
-        Scan::Corn(_) => Picked::Wrong,
-        Scan::Fault(_) => Picked::Wrong,
-        Scan::WheatGluten(w) => {
-            if row == WHEAT {
-                Picked::Value(w.gluten)
-            } else {
-                Picked::Wrong
-            }
-        }
+        Scan::WheatGluten(w) if row == WHEAT => Some(w.gluten),
+        _ => None,
     }
 }
 
 // The scan's float of what is asked, where the scan serves.
-pub fn pick(row: u32, scan: Scan, asked: Asked, line: usize) -> Picked
+#[tactic(auto, unfolding(crate::specs::Scans::picked_of, crate::specs::Scans::line_picked, crate::specs::Scans::gluten_picked, station_rules::specs::Readings::scan_serves, station_rules::specs::Readings::asked_float))]
+pub fn pick(row: u32, scan: Scan, asked: Asked, line: usize) -> Option<f32>
     ensures { result ≡ picked_of row scan asked line }
 {
     match asked {

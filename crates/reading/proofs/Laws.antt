@@ -1,4 +1,5 @@
 -- The theorem `reading_laws`, and what a caller that matches on the answer learns.
+use Rattle.std.specs.Prelude.{Some, None}
 use mathlib.Core.Path.{◌≡◌, refl, sym, ap, ◌∙◌, subst, subst⁻¹}
 use mathlib.Core.Bool.{Bool, true, false, not, ◌||◌, cond, true≢false}
 use Prim.Native.Nat.{ℕ, ◌+◌, ◌*◌, ◌/◌, ◌≤◌, ◌<◌}
@@ -12,32 +13,31 @@ use lib.Ieee.Fits.{and_i, and_l, and_r}
 use lib.Ieee.Scale.{finite}
 use Rattle.reading.specs.Reading.{unit, units_of, in_range, reading_of, answer_of, hundredths, refused_by, said_by}
 use Rattle.reading.specs.Laws.{ReadingLaws}
-use Rattle.reading.specs.declared.answer.Reading.TheVariants.{Hundredths, Refused}
 use Rattle.reading.proofs.Units.{units_exact}
 
 -- ---- the answer by cases, and back
 
-pub answer_in : (x : Float) → in_range x ≡ true → answer_of x ≡ Hundredths (reading_of x)
+pub answer_in : (x : Float) → in_range x ≡ true → answer_of x ≡ Some (reading_of x)
 unfolding answer_of
-answer_in x h = ap (λ (b : Bool). cond b (Hundredths (reading_of x)) Refused) h
+answer_in x h = ap (λ (b : Bool). cond b (Some (reading_of x)) None) h
 
-pub answer_out : (x : Float) → in_range x ≡ false → answer_of x ≡ Refused
+pub answer_out : (x : Float) → in_range x ≡ false → answer_of x ≡ None
 unfolding answer_of
-answer_out x h = ap (λ (b : Bool). cond b (Hundredths (reading_of x)) Refused) h
+answer_out x h = ap (λ (b : Bool). cond b (Some (reading_of x)) None) h
 
-pub answered : (x : Float) (r : ℕ) → answer_of x ≡ Hundredths r → T (in_range x) × (reading_of x ≡ r)
+pub answered : (x : Float) (r : ℕ) → answer_of x ≡ Some r → T (in_range x) × (reading_of x ≡ r)
 unfolding answer_of
 answered x r h = go (in_range x) h
   where
-    go : (b : Bool) → cond b (Hundredths (reading_of x)) Refused ≡ Hundredths r → T b × (reading_of x ≡ r)
+    go : (b : Bool) → cond b (Some (reading_of x)) None ≡ Some r → T b × (reading_of x ≡ r)
     go true e = (tt, cc)
     go false e = let z : true ≡ false = cc in absurd (true≢false z)
 
-pub refused : (x : Float) → answer_of x ≡ Refused → T (not (in_range x))
+pub refused : (x : Float) → answer_of x ≡ None → T (not (in_range x))
 unfolding answer_of
 refused x h = go (in_range x) h
   where
-    go : (b : Bool) → cond b (Hundredths (reading_of x)) Refused ≡ Refused → T (not b)
+    go : (b : Bool) → cond b (Some (reading_of x)) None ≡ None → T (not b)
     go true e = let z : true ≡ false = cc in absurd (true≢false z)
     go false e = tt
 
@@ -45,7 +45,7 @@ said_by_cases : (x : Float) → said_by (answer_of x) ≡ cond (in_range x) (hun
 unfolding answer_of
 said_by_cases x = go (in_range x)
   where
-    go : (b : Bool) → said_by (cond b (Hundredths (reading_of x)) Refused) ≡ cond b (hundredths (reading_of x)) (refused_by 9)
+    go : (b : Bool) → said_by (cond b (Some (reading_of x)) None) ≡ cond b (hundredths (reading_of x)) (refused_by 9)
     go true = refl
     go false = refl
 
@@ -122,7 +122,7 @@ unfolding reading_of
 at_most x h = capped (units_of x) unit (pow_pos 149) (range_units x h)
 
 -- what `reading` answers is at most 10000
-pub answer_le : (x : Float) (r : ℕ) → answer_of x ≡ Hundredths r → r ≤ 10000
+pub answer_le : (x : Float) (r : ℕ) → answer_of x ≡ Some r → r ≤ 10000
 answer_le x r h = subst (λ (k : ℕ). k ≤ 10000) (answered x r h).1 (at_most x (answered x r h).0)
 
 pub reading_laws : (x : Float) → ReadingLaws x

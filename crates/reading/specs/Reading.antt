@@ -1,9 +1,7 @@
 -- docs/SPECIFICATION.md, "Analyser readings" and number 9: what a float in percent reads as.
-use Rattle.std.specs.Prelude.{Bool, false, not, ◌&&◌, ◌||◌, cond, ℕ, ◌+◌, ◌*◌, ◌/◌, ◌^◌, leb, eqb, Float}
+use Rattle.std.specs.Prelude.{Some, None, Option, Bool, false, not, ◌&&◌, ◌||◌, cond, ℕ, ◌+◌, ◌*◌, ◌/◌, ◌^◌, leb, eqb, Float}
 use Rattle.std.specs.Float.{nan, inf, fin}
 use Rattle.std.specs.Float.Ieee.{up, down}
-use Rattle.reading.specs.declared.answer.Reading.{Reading}
-use Rattle.reading.specs.declared.answer.Reading.TheVariants.{Hundredths, Refused}
 
 -- a unit is 2^−149: so many make 1
 abbrev pub unit : ℕ
@@ -27,18 +25,18 @@ unfolding units_of
 reading_of x = (200 * units_of x + unit) / (2 * unit)
 
 -- what is answered, for every float
-unfoldable pub answer_of : Float → Reading
+unfoldable pub answer_of : Float → Option ℕ
 unfolding in_range reading_of
-answer_of x = cond (in_range x) (Hundredths (reading_of x)) Refused
+answer_of x = cond (in_range x) (Some (reading_of x)) None
 
 -- what an answer says in the rules' words: a reading in hundredths, or the number of a refusal
 pub data Said : Type 0 where
   hundredths : ℕ → Said
   refused_by : ℕ → Said
 
-abbrev pub said_by : Reading → Said
-said_by (Hundredths n) = hundredths n
-said_by Refused = refused_by 9
+abbrev pub said_by : Option ℕ → Said
+said_by (Some n) = hundredths n
+said_by None = refused_by 9
 
 -- p / 2^s + 1/2, cut to a whole number
 unfoldable pub rounded_of : ℕ → ℕ → ℕ

@@ -1,45 +1,45 @@
 -- Which answer a sheet's numbers get, by the tests of numbers 4 to 7 in their order.
 use mathlib.Core.Path.{◌≡◌, refl, sym, ap, ap₂, ◌∙◌}
-use mathlib.Core.Bool.{Bool, true, false, ◌&&◌, ◌||◌, cond}
+use mathlib.Core.Bool.{Bool, true, false, ◌||◌, cond}
 use mathlib.Core.List.{List, [], ◌∷◌, map}
-use mathlib.Core.Option.{none, some}
+use Rattle.std.specs.Prelude.{Ok, Err, None, Some}
 use Prim.Native.Nat.{ℕ, ◌*◌}
-use lib.IntN.{ℤ, pos, ◌-ℤ◌}
-use lib.Signed.{lt_z}
+use lib.IntN.{ℤ}
 use lib.ListN.{length}
 use borrow.Author.Tests.{eq-eqb, ne_eqb}
 use Rattle.whole.specs.Lists.{any, total}
-use Rattle.whole.proofs.ListLaws.{cond_yes, cond_no, unlike_no}
+use Rattle.whole.proofs.ListLaws.{by_test, unlike_no}
 use Rattle.station_rules.specs.Lists.{keep}
-use Rattle.station_rules.specs.Sheets.{Sample, samples_of, wrong_number, wrong_third, wrong_again, again_round, first_deviation, final_deviation, kept, kept_samples, set_of, sheet_checks}
+use Rattle.station_rules.specs.Sheets.{samples_of, wrong_number, wrong_third, wrong_again, again_round, first_deviation, final_deviation, kept, kept_samples, set_of, sheet_checks}
+use Rattle.station_rules.specs.declared.Sample.{Sample}
 use Rattle.station_rules.specs.declared.Limits.{Limits}
+use Rattle.station_refusals.specs.declared.Refusal.{Refusal}
 use Rattle.station_rules.specs.declared.Set.{Set}
-use Rattle.station_rules.specs.declared.Refusal.TheVariants.{SheetSize, SheetNumber, ThirdReading, AgainPair}
+use Rattle.station_refusals.specs.declared.Refusal.TheVariants.{SheetSize, SheetNumber, ThirdReading, AgainPair}
 use Rattle.sheet_numbers.specs.Samples.{has_again}
 use Rattle.sheet_numbers.proofs.SheetLaws.{samples_length}
-use Rattle.sheet_pass.specs.Passes.{round_of, Spanned}
-use Rattle.sheet_pass.specs.declared.Span.{Span}
-use Rattle.sheet_again.specs.Tallies.{totals}
-use Rattle.sheet.specs.Judged.{judged_by, judged_of, without_round, in_round}
-use Rattle.sheet.specs.declared.answer.Judged.TheVariants.{Counted, Refused}
+use Rattle.sheet_pass.specs.Passes.{round_of, all_of, found_of}
+use Rattle.sheet_pass.specs.declared.Found.{Found}
+use Rattle.sheet_again.specs.Tallies.{totals, counted}
+use Rattle.sheet.specs.Judged.{judged_by, judged_of, without_round}
 
 -- number 7 is the last
-last : (b : Bool) (set : Set) → cond b (Refused AgainPair) (Counted set) ≡ judged_by (cond b (some 7) none) set
+last : (b : Bool) (set : Set) → cond b (Err AgainPair) (Ok set) ≡ judged_by (cond b (Some 7) None) set
 last true set = refl
 last false set = refl
 
--- what is left without an again round, by its test
-pub again_refused : (again : Bool) (sum : ℤ) (n : ℕ) → again ≡ true → Refused AgainPair ≡ without_round again sum n
-again_refused again sum n e = cond_yes _ _ refl e
+-- what the pass finds is what the rules say
+pub found_right : (limits : Limits) (intercept : ℤ) (ss : List Sample) {t : Found} → Ok t ≡ found_of limits intercept ss → (any wrong_number ss ≡ false) × (t ≡ all_of limits intercept ss)
+unfolding found_of
+found_right limits intercept ss {t} e =
+    by_test (any wrong_number ss) (λ b. Ok t ≡ cond b (Err SheetNumber) (Ok (all_of limits intercept ss)) → (b ≡ false) × (t ≡ all_of limits intercept ss))
+    (λ w f. absurd cc) (λ w f. (refl, cc)) e
 
-pub all_kept : (again : Bool) (sum : ℤ) (n : ℕ) → again ≡ false → Counted (record { sum = sum; count = 2 * n }) ≡ without_round again sum n
-all_kept again sum n e = cond_no _ _ refl e
-
--- rule 3 by the span of all deviations
-pub round_is : (limits : Limits) (intercept : ℤ) (ss : List Sample) (s : Span) → Spanned limits intercept ss s → round_of limits s ≡ again_round limits intercept ss
-unfolding again_round
-round_is limits intercept ss s p =
-    ap₂ ◌&&◌ p.deviating (ap₂ (λ (high low : ℤ). lt_z (pos (2 * limits.range)) (high -ℤ low)) p.high p.low)
+found_wrong : (limits : Limits) (intercept : ℤ) (ss : List Sample) {r : Refusal} → Err r ≡ found_of limits intercept ss → (any wrong_number ss ≡ true) × (r ≡ SheetNumber)
+unfolding found_of
+found_wrong limits intercept ss {r} e =
+    by_test (any wrong_number ss) (λ b. Err r ≡ cond b (Err SheetNumber) (Ok (all_of limits intercept ss)) → (b ≡ true) × (r ≡ SheetNumber))
+    (λ w f. (refl, cc)) (λ w f. absurd cc) e
 
 -- ---- without an again round
 
@@ -66,30 +66,45 @@ module _ (limits : Limits) (intercept : ℤ) where
       }
 
 module _ (limits : Limits) (intercept : ℤ) (n : ℕ) (l : List ℤ) where
-  pub size_refused : (length l ≡ 6 * n → ⊥) → Refused SheetSize ≡ judged_of limits intercept n l
+  pub size_refused : (length l ≡ 6 * n → ⊥) → Err SheetSize ≡ judged_of limits intercept n l
   unfolding judged_of sheet_checks
   size_refused h = simp (ne_eqb (length l) (6 * n) h)
 
   module _ (size : length l ≡ 6 * n) where
-    pub number_refused : any wrong_number (samples_of l) ≡ true → Refused SheetNumber ≡ judged_of limits intercept n l
+    pub number_refused : {r : Refusal} → Err r ≡ found_of limits intercept (samples_of l) → Err r ≡ judged_of limits intercept n l
     unfolding judged_of sheet_checks
-    number_refused h = simp (eq-eqb (length l) (6 * n) size, h)
+    number_refused e =
+        let w = found_wrong limits intercept (samples_of l) e in
+        ap Err w.1 ∙ simp (eq-eqb (length l) (6 * n) size, w.0)
 
-    module _ (right : any wrong_number (samples_of l) ≡ false) where
-      pub third_refused : any (wrong_third limits) (samples_of l) ≡ true → Refused ThirdReading ≡ judged_of limits intercept n l
+    module _ {t : Found} (found : Ok t ≡ found_of limits intercept (samples_of l)) where
+      right : any wrong_number (samples_of l) ≡ false
+      right = (found_right limits intercept (samples_of l) found).0
+
+      same : t ≡ all_of limits intercept (samples_of l)
+      same = (found_right limits intercept (samples_of l) found).1
+
+      -- rule 3 by the span of all deviations
+      round_is : {b c : Bool} → c ≡ round_of limits t.span → c ≡ b → again_round limits intercept (samples_of l) ≡ b
+      unfolding again_round
+      round_is e f = sym (ap (λ (u : Found). round_of limits u.span) same) ∙ sym e ∙ f
+
+      pub third_refused : t.third ≡ true → Err ThirdReading ≡ judged_of limits intercept n l
       unfolding judged_of sheet_checks
-      third_refused h = simp (eq-eqb (length l) (6 * n) size, right, h)
+      third_refused h = simp (eq-eqb (length l) (6 * n) size, right, sym (ap (λ (u : Found). u.third) same) ∙ h)
 
-      module _ (thirds : any (wrong_third limits) (samples_of l) ≡ false) where
-        pub judged_in_round : again_round limits intercept (samples_of l) ≡ true → in_round limits intercept (samples_of l) ≡ judged_of limits intercept n l
-        unfolding judged_of sheet_checks set_of kept_samples totals in_round
-        judged_in_round e = simp (eq-eqb (length l) (6 * n) size, right, thirds, e) (last (any (wrong_again limits intercept true) (samples_of l)) _)
+      module _ (third : t.third ≡ false) {c : Bool} (round : c ≡ round_of limits t.span) where
+        thirds : any (wrong_third limits) (samples_of l) ≡ false
+        thirds = sym (ap (λ (u : Found). u.third) same) ∙ third
 
-        pub judged_without : again_round limits intercept (samples_of l) ≡ false → (again : Bool) (sum : ℤ) → again ≡ any has_again (samples_of l)
-            → sum ≡ total (map (first_deviation limits intercept) (samples_of l)) → without_round again sum n ≡ judged_of limits intercept n l
+        pub judged_in_round : c ≡ true → counted limits intercept (samples_of l) ≡ judged_of limits intercept n l
+        unfolding judged_of sheet_checks set_of kept_samples totals counted
+        judged_in_round e = simp (eq-eqb (length l) (6 * n) size, right, thirds, round_is round e) (last (any (wrong_again limits intercept true) (samples_of l)) _)
+
+        pub judged_without : c ≡ false → without_round t.again t.sum n ≡ judged_of limits intercept n l
         unfolding judged_of sheet_checks set_of kept_samples
-        judged_without e again sum f g =
-            simp (eq-eqb (length l) (6 * n) size, right, thirds, e)
-            (ap₂ (λ (b : Bool) (set : Set). cond b (Refused AgainPair) (Counted set)) (f ∙ sym (none_due limits intercept (samples_of l)))
-            (all_counted limits intercept (samples_of l) n sum (samples_length n l size) g)
+        judged_without e =
+            simp (eq-eqb (length l) (6 * n) size, right, thirds, round_is round e)
+            (ap₂ (λ (b : Bool) (set : Set). cond b (Err AgainPair) (Ok set)) (ap (λ (u : Found). u.again) same ∙ sym (none_due limits intercept (samples_of l)))
+            (all_counted limits intercept (samples_of l) n t.sum (samples_length n l size) (ap (λ (u : Found). u.sum) same))
             ∙ last (any (wrong_again limits intercept false) (samples_of l)) _)

@@ -2,65 +2,48 @@
 
 #![tactic(auto)]
 
-mod answer;
-
 ghost use Rattle.std.specs.Prelude.{◌≡◌, ◌≤◌};
-ghost use Rattle.whole.specs.Parts.{Within};
-ghost use Rattle.station_rules.specs.Sheets.{samples_of};
 ghost use Rattle.sheet_numbers.specs.Samples.{Fair};
-ghost use Rattle.sheet_numbers.specs.Sheet.{Sheet};
-ghost use Rattle.sheet.specs.Judged.{judged_of, without_round, in_round};
+ghost use Rattle.sheet.specs.Judged.{judged_of, without_round};
 
-pub use answer::Judged;
 use sheet_pass::Found;
+use sheet_sample::Terms;
 use station_rules::{Limits, Refusal, SAMPLE_NUMBERS, Set};
-use whole::Int;
 
 // Without an again round no again pair may be there, and no sample is dropped.
-fn without_round(found: Found, samples: usize) -> Judged
-    requires { (Within 25000000 25000000 found.sum.z) × (samples ≤ 1000) }
-    ensures { result ≡ without_round found.again found.sum.z samples }
+fn without_round(found: Found, samples: usize) -> Result<Set, Refusal>
+    requires { samples ≤ 1000 }
+    ensures { result ≡ without_round found.again found.sum samples }
 {
     if found.again {
-        return Judged::Refused(Refusal::AgainPair);
+        return Err(Refusal::AgainPair);
     }
-    Judged::Counted(Set {
-        sum: found.sum.z,
+    Ok(Set {
+        sum: found.sum,
         count: 2 * (samples as u32),
     })
 }
 
 // In an again round the samples are passed over once more.
-fn in_round(limits: Limits, intercept: Int, samples: usize, numbers: &[i32]) -> Judged
-    requires { Fair limits intercept.z × Sheet samples numbers.now }
-    ensures { result ≡ in_round limits intercept.z (samples_of numbers.now) }
-{
-    let t = sheet_again::counted(limits, intercept, numbers, samples);
-    if t.wrong {
-        return Judged::Refused(Refusal::AgainPair);
-    }
-    Judged::Counted(Set {
-        sum: t.sum.z,
-        count: t.count,
-    })
-}
-
-pub fn judge(limits: Limits, intercept: Int, samples: usize, numbers: &[i32]) -> Judged
-    requires { Fair limits intercept.z × ((1 ≤ samples) × (samples ≤ 1000)) }
-    ensures { result ≡ judged_of limits intercept.z samples numbers.now }
+pub fn judge(
+    limits: Limits,
+    intercept: i32,
+    samples: usize,
+    numbers: &[i32],
+) -> Result<Set, Refusal>
+    requires { Fair limits intercept × ((1 ≤ samples) × (samples ≤ 1000)) }
+    ensures { result ≡ judged_of limits intercept samples numbers.now }
 {
     if numbers.len() != SAMPLE_NUMBERS * samples {
-        return Judged::Refused(Refusal::SheetSize);
+        return Err(Refusal::SheetSize);
     }
-    let found = sheet_pass::pass(limits, intercept, numbers, samples);
-    if found.number {
-        return Judged::Refused(Refusal::SheetNumber);
-    }
+    let terms = Terms { limits, intercept };
+    let found = sheet_pass::pass(terms, numbers)?;
     if found.third {
-        return Judged::Refused(Refusal::ThirdReading);
+        return Err(Refusal::ThirdReading);
     }
     if sheet_pass::again_round(limits, found.span) {
-        in_round(limits, intercept, samples, numbers)
+        sheet_again::counted(terms, numbers)
     } else {
         without_round(found, samples)
     }

@@ -2,63 +2,41 @@
 
 #![tactic(auto)]
 
-ghost use Rattle.std.specs.Prelude.{◌≤◌};
-ghost use Rattle.whole.specs.Parts.{Within};
-ghost use Rattle.station_rules.specs.Sheets.{samples_of};
-ghost use Rattle.sheet_numbers.specs.Samples.{sample_of, Measured, Fair};
-ghost use Rattle.sheet_numbers.specs.Sheet.{Sheet};
-ghost use Rattle.sheet_again.specs.Tallies.{Added, Counted};
+ghost use Rattle.std.specs.Prelude.{◌≡◌, ◌≤◌, false, length, IfOk};
+ghost use Rattle.whole.specs.Bounds.{Within};
+ghost use Rattle.whole.specs.Lists.{any};
+ghost use Rattle.station_rules.specs.Sheets.{samples_of, wrong_number};
+ghost use Rattle.sheet_numbers.specs.Samples.{Measured};
+ghost use Rattle.sheet_again.specs.Tallies.{added, counted};
 
-use sheet_numbers::SixNumbers;
-use station_rules::Limits;
-use whole::{Int, flags};
+use sheet_sample::Terms;
+use station_rules::{Refusal, SAMPLE_NUMBERS, Sample, Set};
 
-// S and N so far, and whether an again pair was missing or needless.
-#[derive(Clone, Copy)]
-pub struct Tally {
-    pub wrong: bool,
-    pub sum: Int,
-    pub count: u32,
-}
-
-// A sample's deviation joins S, and 2 joins N; one that still deviates is dropped.
-fn add_sample(limits: Limits, intercept: Int, t: Tally, s: SixNumbers) -> Tally
-    requires fair { (Fair limits intercept.z) × (Measured (sample_of s)) }
-    requires within { (Within 25000000 25000000 t.sum.z) × (t.count ≤ 2000) }
-    ensures { Added limits intercept.z t (sample_of s) result }
+// A sample's deviation joins S, and 2 joins N; one that still deviates is dropped. An again pair that is missing or needless is number 7.
+fn add_sample(terms: Terms, t: Set, s: Sample) -> Result<Set, Refusal>
+    requires fair { Measured s }
+    requires within { (Within 25000000 25000000 t.sum) × (t.count ≤ 2000) }
+    ensures { result ≡ added terms.limits terms.intercept t s }
 {
-    let a = sheet_sample::in_round(limits, intercept, s);
-    let wrong = flags::either(t.wrong, a.wrong);
-    if sheet_sample::is_deviating(limits, a.deviation) {
-        let sum = t.sum;
-        return Tally {
-            wrong,
-            sum,
-            count: t.count,
-        };
+    let d = terms.in_round(s)?;
+    if sheet_sample::is_deviating(terms.limits, d) {
+        return Ok(t);
     }
-    Tally {
-        wrong,
-        sum: whole::add(t.sum, a.deviation),
+    Ok(Set {
+        sum: t.sum + d,
         count: t.count + 2,
-    }
+    })
 }
 
-// Number 7, S and N.
-pub fn counted(limits: Limits, intercept: Int, numbers: &[i32], samples: usize) -> Tally
-    requires { Fair limits intercept.z × Sheet samples numbers.now }
-    ensures { Counted limits intercept.z (samples_of numbers.now) result }
+// Number 7, else S and N.
+pub fn counted(terms: Terms, numbers: &[i32]) -> Result<Set, Refusal>
+    requires { (length numbers.now ≤ 6000) × (any wrong_number (samples_of numbers.now) ≡ false) }
+    ensures is { result ≡ counted terms.limits terms.intercept (samples_of numbers.now) }
+    ensures small { IfOk result (λ t. Within 25000000 25000000 t.sum) }
 {
-    let mut t = Tally {
-        wrong: false,
-        sum: Int { z: 0 },
-        count: 0,
-    };
-    let mut i = 0;
-    while i < samples {
-        let s = sheet_numbers::sample_at(numbers, i, samples);
-        t = add_sample(limits, intercept, t, s);
-        i += 1;
+    let mut t = Set { sum: 0, count: 0 };
+    for part in numbers.chunks_exact(SAMPLE_NUMBERS) {
+        t = add_sample(terms, t, sheet_numbers::sample_of(part))?;
     }
-    t
+    Ok(t)
 }

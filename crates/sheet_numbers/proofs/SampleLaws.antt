@@ -1,25 +1,20 @@
 -- What number 5 leaves of a sample, and the test of −1.
-use mathlib.Core.Path.{◌≡◌, refl}
-use mathlib.Core.Bool.{Bool, true, false, ◌&&◌, ◌||◌}
+use mathlib.Core.Path.{◌≡◌}
+use mathlib.Core.Bool.{Bool, true, false, ◌||◌}
 use Prim.Native.Nat.{zero, suc}
 use native.Mathlib.Omega.{arith}
 use lib.Dec.{T, leb, leb→le, eqb→eq}
 use lib.IntN.{ℤ, pos, negsuc}
-use lib.Signed.{le_z, lt_z}
-use borrow.Author.Tests.{le-ltb, lt-leb, ne_eqb}
-use Rattle.whole.specs.Parts.{Within}
+use Rattle.std.proofs.lemmas.Int.{ints}
+use Rattle.whole.specs.Bounds.{Within}
 use Rattle.whole.proofs.Tests.{and_r}
-use Rattle.station_rules.specs.Sheets.{Sample, is_result, absent, wrong_number}
+use Rattle.station_rules.specs.Sheets.{is_result, wrong_number}
+use Rattle.station_rules.specs.declared.Sample.{Sample}
 use Rattle.station_rules.proofs.SheetBounds.{in_ranges_lem}
 use Rattle.sheet_numbers.specs.Samples.{allowed, Measured}
 
-pub absent_is : (z : ℤ) → le_z (negsuc 0) z && lt_z z (pos 0) ≡ absent z
-absent_is (pos n) = simp (le-ltb n 0 (omega arith))
-absent_is (negsuc zero) = refl
-absent_is (negsuc (suc n)) = simp (lt-leb (suc n) 0 (omega arith), ne_eqb (suc n) 0 (λ h. omega arith))
-
 within_result : (z : ℤ) → T (is_result z) → Within 1 10000 z
-within_result (pos n) t = let h = leb→le n 10000 (and_r (leb 0 n) (leb n 10000) t) in omega arith
+within_result (pos n) t = let h = leb→le n 10000 (and_r (leb 0 n) (leb n 10000) t) in omega (arith, ints)
 within_result (negsuc n) t = absurd t
 
 within_allowed : (z : ℤ) → T (allowed z) → Within 1 10000 z
@@ -28,7 +23,7 @@ within_allowed (pos n) t = within_result (pos n) (or_no (is_result (pos n)) t)
     or_no : (a : Bool) → T (a || false) → T a
     or_no true t = tt
     or_no false t = t
-within_allowed (negsuc zero) t = omega arith
+within_allowed (negsuc zero) t = omega (arith, ints)
 within_allowed (negsuc (suc n)) t = absurd (omega (arith, eqb→eq (suc n) 0 t))
 
 -- number 5 leaves each number measured or −1

@@ -1,20 +1,18 @@
--- The samples of a sheet at their places: each stands in its part of the numbers, and one step of a pass takes the next.
-use mathlib.Core.Path.{◌≡◌, refl, sym, ap, ◌∙◌, subst⁻¹}
-use mathlib.Core.Bool.{Bool, false}
-use mathlib.Core.List.{List, [], ◌∷◌}
-use Prim.Native.Nat.{ℕ, zero, suc, ◌+◌, ◌*◌, ◌-◌, ◌≤◌, ◌<◌}
+-- The samples of a sheet's numbers, as its parts of six come one after another, and a pass over them that stops at the first that it refuses.
+use mathlib.Core.Path.{◌≡◌, refl, sym, ap, ◌∙◌}
+use mathlib.Core.Bool.{Bool, false, ◌||◌, cond}
+use mathlib.Core.List.{List, [], ◌∷◌, ◌++◌}
+use Rattle.std.specs.Prelude.{Result, Ok, Err}
+use Prim.Native.Nat.{ℕ, zero, suc, ◌*◌, ◌≤◌, ◌<◌}
 use native.Mathlib.Omega.{arith}
 use lib.IntN.{ℤ}
-use lib.ListN.{length, get_or, drop, take}
+use lib.ListN.{length}
 use Rattle.whole.specs.Lists.{any}
-use Rattle.whole.proofs.Fold.{fold, Going, going_next, going_done}
-use Rattle.station_rules.specs.Sheets.{Sample, samples_of, wrong_number}
-use Rattle.whole.proofs.Elements.{none_passes}
-use Rattle.sheet_numbers.specs.Samples.{sample_from, Measured}
-use Rattle.sheet_numbers.proofs.SampleLaws.{measured}
-use Rattle.sheet_numbers.specs.Sheet.{blank, Sheet}
-
--- ---- six numbers a sample
+use Rattle.whole.proofs.Fold.{fold}
+use Rattle.whole.proofs.ListLaws.{by_test}
+use Rattle.station_rules.specs.Sheets.{samples_of}
+use Rattle.station_rules.specs.declared.Sample.{Sample}
+use Rattle.sheet_numbers.specs.Samples.{sample_from}
 
 pub samples_length : (n : ℕ) (l : List ℤ) → length l ≡ 6 * n → length (samples_of l) ≡ n
 unfolding samples_of
@@ -28,58 +26,83 @@ samples_length (suc n) (a ∷ b ∷ c ∷ d ∷ []) h = absurd (omega arith)
 samples_length (suc n) (a ∷ b ∷ c ∷ d ∷ e ∷ []) h = absurd (omega arith)
 samples_length (suc n) (a ∷ b ∷ c ∷ d ∷ e ∷ f ∷ l) h = ap suc (samples_length n l (omega arith))
 
-six_more : (i : ℕ) → 6 * suc i ≡ suc (suc (suc (suc (suc (suc (6 * i))))))
-six_more i = omega arith
-
-samples_at : (n i : ℕ) (l : List ℤ) → length l ≡ 6 * n → i < n → get_or (samples_of l) i blank ≡ sample_from (drop (6 * i) l)
+-- a part of six is a sample, before those of the rest
+part_first : (part rest : List ℤ) → length part ≡ 6 → samples_of (part ++ rest) ≡ sample_from part ∷ samples_of rest
 unfolding samples_of
-samples_at zero i l h k = absurd (omega arith)
-samples_at (suc n) i [] h k = absurd (omega arith)
-samples_at (suc n) i (a ∷ []) h k = absurd (omega arith)
-samples_at (suc n) i (a ∷ b ∷ []) h k = absurd (omega arith)
-samples_at (suc n) i (a ∷ b ∷ c ∷ []) h k = absurd (omega arith)
-samples_at (suc n) i (a ∷ b ∷ c ∷ d ∷ []) h k = absurd (omega arith)
-samples_at (suc n) i (a ∷ b ∷ c ∷ d ∷ e ∷ []) h k = absurd (omega arith)
-samples_at (suc n) zero (a ∷ b ∷ c ∷ d ∷ e ∷ f ∷ l) h k = refl
-samples_at (suc n) (suc i) (a ∷ b ∷ c ∷ d ∷ e ∷ f ∷ l) h k =
-    samples_at n i l (omega arith) (omega arith)
-    ∙ ap (λ (j : ℕ). sample_from (drop j (a ∷ b ∷ c ∷ d ∷ e ∷ f ∷ l))) (sym (six_more i))
+part_first [] rest h = absurd (omega arith)
+part_first (a ∷ []) rest h = absurd (omega arith)
+part_first (a ∷ b ∷ []) rest h = absurd (omega arith)
+part_first (a ∷ b ∷ c ∷ []) rest h = absurd (omega arith)
+part_first (a ∷ b ∷ c ∷ d ∷ []) rest h = absurd (omega arith)
+part_first (a ∷ b ∷ c ∷ d ∷ e ∷ []) rest h = absurd (omega arith)
+part_first (a ∷ b ∷ c ∷ d ∷ e ∷ f ∷ []) rest h = refl
+part_first (a ∷ b ∷ c ∷ d ∷ e ∷ f ∷ g ∷ l) rest h = absurd (omega arith)
 
--- the first six of a list are its part's
-part_sample : (l : List ℤ) → sample_from (take 6 l) ≡ sample_from l
-part_sample [] = refl
-part_sample (a ∷ []) = refl
-part_sample (a ∷ b ∷ []) = refl
-part_sample (a ∷ b ∷ c ∷ []) = refl
-part_sample (a ∷ b ∷ c ∷ d ∷ []) = refl
-part_sample (a ∷ b ∷ c ∷ d ∷ e ∷ []) = refl
-part_sample (a ∷ b ∷ c ∷ d ∷ e ∷ f ∷ l) = refl
+pub next_part : {l : List ℤ} (part rest : List ℤ) → l ≡ part ++ rest → length part ≡ 6 → samples_of l ≡ sample_from part ∷ samples_of rest
+next_part part rest e h = ap samples_of e ∙ part_first part rest h
 
-pub at_part : (n i : ℕ) (l : List ℤ) → i < n → length l ≡ 6 * n
-    → sample_from (take (6 * i + 6 - 6 * i) (drop (6 * i) l)) ≡ get_or (samples_of l) i blank
-at_part n i l k h =
-    let e : 6 * i + 6 - 6 * i ≡ 6 = omega arith in
-    ap (λ (j : ℕ). sample_from (take j (drop (6 * i) l))) e ∙ part_sample (drop (6 * i) l) ∙ sym (samples_at n i l h k)
+-- fewer than six are no sample
+no_part : (l : List ℤ) → length l < 6 → samples_of l ≡ []
+unfolding samples_of
+no_part [] h = refl
+no_part (a ∷ []) h = refl
+no_part (a ∷ b ∷ []) h = refl
+no_part (a ∷ b ∷ c ∷ []) h = refl
+no_part (a ∷ b ∷ c ∷ d ∷ []) h = refl
+no_part (a ∷ b ∷ c ∷ d ∷ e ∷ []) h = refl
+no_part (a ∷ b ∷ c ∷ d ∷ e ∷ f ∷ l) h = absurd (omega arith)
 
--- ---- a pass over the samples: a step, and the end
+-- at least six are one at least
+pub some_part : (P : List Sample → Type 0) (l : List ℤ) → 6 ≤ length l → ((s : Sample) (ss : List Sample) → P (s ∷ ss)) → P (samples_of l)
+unfolding samples_of
+some_part P [] h p = absurd (omega arith)
+some_part P (a ∷ []) h p = absurd (omega arith)
+some_part P (a ∷ b ∷ []) h p = absurd (omega arith)
+some_part P (a ∷ b ∷ c ∷ []) h p = absurd (omega arith)
+some_part P (a ∷ b ∷ c ∷ d ∷ []) h p = absurd (omega arith)
+some_part P (a ∷ b ∷ c ∷ d ∷ e ∷ []) h p = absurd (omega arith)
+some_part P (a ∷ b ∷ c ∷ d ∷ e ∷ f ∷ l) h p = p (sample_from (a ∷ b ∷ c ∷ d ∷ e ∷ f ∷ [])) (samples_of l)
 
-module _ (n : ℕ) (l : List ℤ) (size : length l ≡ 6 * n) {S : Type 0} (f : S → Sample → S) (s₀ : S) (i : ℕ) (s : S) (going : Going f s₀ (samples_of l) i s) where
-  pub pass_step : (r : S) → i < n → r ≡ f s (get_or (samples_of l) i blank) → Going f s₀ (samples_of l) (i + 1) r
-  pass_step r k e = going_next f s₀ (samples_of l) blank i s r (omega (arith, samples_length n l size)) e going
+-- ---- a pass: a sample that is bad is refused, any other joins what the ones before it came to
 
-  pub pass_done : n ≤ i → s ≡ fold f s₀ (samples_of l)
-  pass_done k = going_done f s₀ (samples_of l) i s (omega (arith, samples_length n l size)) going
+module _ {S E : Type 0} (bad : Sample → Bool) (refusal : E) (more : S → Sample → S) where
+  abbrev pub with_one : S → Sample → Result S E
+  with_one t s = cond (bad s) (Err refusal) (Ok (more t s))
 
--- ---- number 5 passed
+  unfoldable pub passed : S → List Sample → Result S E
+  passed t [] = Ok t
+  passed t (s ∷ ss) = cond (bad s) (Err refusal) (passed (more t s) ss)
 
--- no sample of the sheet is wrong, so none at a place is
-pub any_at : (p : Sample → Bool) (l : List Sample) (i : ℕ) → any p l ≡ false → i < length l → p (get_or l i blank) ≡ false
-any_at p [] i e h = absurd (omega arith)
-any_at p (x ∷ l) zero e h = (none_passes p x l e).0
-any_at p (x ∷ l) (suc i) e h = any_at p l i (none_passes p x l e).1 (omega arith)
+  -- what it comes to: refused where some sample is bad, else the fold
+  pub passed_is : (t : S) (ss : List Sample) → passed t ss ≡ cond (any bad ss) (Err refusal) (Ok (fold more t ss))
+  unfolding passed fold
+  passed_is t [] = refl
+  passed_is t (s ∷ ss) =
+      by_test (bad s) (λ b. cond b (Err refusal) (passed (more t s) ss) ≡ cond (b || any bad ss) (Err refusal) (Ok (fold more (more t s) ss)))
+      (λ e. refl) (λ e. passed_is (more t s) ss)
 
--- the sample at a place of such a sheet
-pub sample_measured : (n i : ℕ) (l : List ℤ) {x : Sample} → i < n → Sheet n l → x ≡ get_or (samples_of l) i blank → Measured x
-sample_measured n i l k h e =
-    subst⁻¹ Measured e
-    (measured (get_or (samples_of l) i blank) (any_at wrong_number (samples_of l) i h.right (omega (arith, samples_length n l h.sized.size))))
+  pub accepted : (t : S) (s : Sample) {r : S} → Ok r ≡ with_one t s → (bad s ≡ false) × (r ≡ more t s)
+  accepted t s {r} e =
+      by_test (bad s) (λ b. Ok r ≡ cond b (Err refusal) (Ok (more t s)) → (b ≡ false) × (r ≡ more t s)) (λ w f. absurd cc) (λ w f. (refl, cc)) e
+
+  -- a part of six comes: what was to come is what is left to come, or it ends here
+  module _ (rest part after : List ℤ) (split : rest ≡ part ++ after) (six : length part ≡ 6) (t : S) where
+    pub passed_next : {r : S} → Ok r ≡ with_one t (sample_from part) → passed r (samples_of after) ≡ passed t (samples_of rest)
+    unfolding passed
+    passed_next {r} e =
+        let a = accepted t (sample_from part) e in
+        ap (λ (u : S). passed u (samples_of after)) a.1
+        ∙ sym (ap (λ (b : Bool). cond b (Err refusal) (passed (more t (sample_from part)) (samples_of after))) a.0)
+        ∙ sym (ap (passed t) (next_part part after split six))
+
+    pub passed_stop : {x : E} → Err x ≡ with_one t (sample_from part) → Err x ≡ passed t (samples_of rest)
+    unfolding passed
+    passed_stop {x} e =
+        by_test (bad (sample_from part)) (λ b. Err x ≡ cond b (Err refusal) (Ok (more t (sample_from part))) → Err x ≡ cond b (Err refusal) (passed (more t (sample_from part)) (samples_of after)))
+        (λ w f. f) (λ w f. absurd cc) e
+        ∙ sym (ap (passed t) (next_part part after split six))
+
+  -- no part is left
+  pub passed_end : (rest : List ℤ) (t : S) → length rest < 6 → Ok t ≡ passed t (samples_of rest)
+  unfolding passed
+  passed_end rest t h = ap (passed t) (sym (no_part rest h))

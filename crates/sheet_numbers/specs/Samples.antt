@@ -1,21 +1,9 @@
--- For the proofs of the code, no rule: a sample's six numbers as the code holds them and as the rules have them, and the ranges in which nothing wraps (docs/SPECIFICATION.md, "The reference sheet").
+-- For the proofs of the code, no rule: a sample taken from its part of the sheet, and the ranges in which nothing wraps (docs/SPECIFICATION.md, "The reference sheet").
 use Rattle.std.specs.Prelude.{Bool, not, ◌&&◌, ◌||◌, List, ◌≤◌, ℤ, pos, get_or}
-use Rattle.whole.specs.Parts.{Within}
-use Rattle.station_rules.specs.Sheets.{Sample, is_result, absent}
+use Rattle.whole.specs.Bounds.{Within}
+use Rattle.station_rules.specs.Sheets.{is_result, absent}
+use Rattle.station_rules.specs.declared.Sample.{Sample}
 use Rattle.station_rules.specs.declared.Limits.{Limits}
-use Rattle.sheet_numbers.specs.declared.SixNumbers.{SixNumbers}
-
--- the sample of six numbers
-abbrev pub sample_of : SixNumbers → Sample
-sample_of s =
-    record {
-      baseline = s.baseline.z;
-      first = s.first.z;
-      second = s.second.z;
-      third = s.third.z;
-      again_first = s.again_first.z;
-      again_second = s.again_second.z;
-    }
 
 -- the sample of a list's first six numbers
 abbrev pub sample_from : List ℤ → Sample
@@ -43,7 +31,7 @@ in_ranges s =
 abbrev pub has_again : Sample → Bool
 has_again s = not (absent s.again_first)
 
--- what number 5 leaves of a sample: each number is −1 or one of 0..10000
+-- what number 5 leaves of a sample: each number is −1 or one of 0..10000. It is asked for in a `requires`: a struct of such samples would be no plainer, the rules' Sample once more.
 pub record Measured (s : Sample) : Type 0 where
   pub baseline : Within 1 10000 s.baseline
   pub first : Within 1 10000 s.first

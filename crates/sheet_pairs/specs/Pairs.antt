@@ -1,6 +1,6 @@
 -- For the proofs of the code, no rule: a pair of results as an array of two numbers (docs/SPECIFICATION.md, "The reference sheet", rule 1).
 use Rattle.std.specs.Prelude.{List, ℤ, pos, get_or}
-use Rattle.whole.specs.Parts.{Within}
+use Rattle.whole.specs.Bounds.{Within}
 use Rattle.station_rules.specs.Sheets.{Pair, pair}
 
 -- the pair of two numbers

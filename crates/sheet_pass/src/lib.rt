@@ -3,126 +3,93 @@
 
 #![tactic(auto)]
 
-ghost use Rattle.std.specs.Prelude.{◌≡◌, ◌≤◌};
-ghost use Rattle.whole.specs.Parts.{Within};
+ghost use Rattle.std.specs.Prelude.{◌≡◌, ◌≤◌, length, IfOk};
+ghost use Rattle.whole.specs.Bounds.{Within};
 ghost use Rattle.station_rules.specs.Sheets.{samples_of};
-ghost use Rattle.sheet_numbers.specs.Samples.{sample_of, Fair};
-ghost use Rattle.sheet_numbers.specs.Sheet.{Sized};
-ghost use Rattle.sheet_pass.specs.Passes.{Widened, Joined, Passed, round_of};
+ghost use Rattle.sheet_pass.specs.Passes.{Bounded, widened, joined, found_of, round_of};
 
-use sheet_numbers::SixNumbers;
-use station_rules::Limits;
-use whole::{Int, flags};
+use sheet_sample::Terms;
+use station_rules::{Limits, Refusal, SAMPLE_NUMBERS, Sample};
 
-// No deviation lies beyond these: the largest so far starts from the lower, the smallest from the higher.
+// No deviation lies beyond these: the largest so far starts from the lower, the smallest from the higher (an Option of the span is no plainer: each step would have two ways).
 const LOWEST: i32 = -25000;
 
 const HIGHEST: i32 = 25000;
 
-// Of some samples: whether one deviates, and the largest and the smallest deviation.
+// Of some samples: whether one deviates (one may, and the span be too narrow for a round, so it is no Option), and the largest and the smallest deviation.
 #[derive(Clone, Copy)]
 pub struct Span {
     pub deviating: bool,
-    pub high: Int,
-    pub low: Int,
+    pub high: i32,
+    pub low: i32,
 }
 
-// What the samples so far come to: whether 5 (a wrong number) and 6 (a wrong third) apply, whether an again pair is there, the span and the sum of the deviations. Where 5 applies, nothing
-// else counts.
+// What the samples so far come to: whether 6 (a wrong third) applies, whether an again pair is there, the span and the sum of the deviations. The two flags are no refusals yet: a wrong number
+// (5) in a later sample counts before a wrong third, and whether an again pair may be there shows at the end.
 #[derive(Clone, Copy)]
 pub struct Found {
-    pub number: bool,
     pub third: bool,
     pub again: bool,
     pub span: Span,
-    pub sum: Int,
+    pub sum: i32,
 }
 
 // The span with one deviation more: a sample that doesn't deviate widens it too.
-fn widened(limits: Limits, s: Span, d: Int) -> Span
-    requires { (limits.sample ≤ 1000) × (Within 25000 25000 d.z) }
-    ensures { Widened limits s d.z result }
+#[tactic(auto, using(crate::proofs::BoundLaws::spans))]
+fn widened(limits: Limits, s: Span, d: i32) -> Span
+    requires { limits.sample ≤ 1000 }
+    ensures { result ≡ widened limits s d }
 {
-    let high = whole::larger(s.high, d);
-    let low = whole::smaller(s.low, d);
-    let wider = Span {
-        deviating: s.deviating,
-        high,
-        low,
-    };
-    if !sheet_sample::is_deviating(limits, d) {
-        return wider;
-    }
     Span {
-        deviating: true,
-        high,
-        low,
+        deviating: s.deviating || sheet_sample::is_deviating(limits, d),
+        high: s.high.max(d),
+        low: s.low.min(d),
     }
 }
 
-// One sample more.
-fn joined(limits: Limits, intercept: Int, t: Found, s: SixNumbers) -> Found
-    requires { Fair limits intercept.z × Within 25000000 25000000 t.sum.z }
-    ensures { Joined limits intercept.z t (sample_of s) result }
+// One sample more; a wrong number is number 5.
+fn joined(terms: Terms, t: Found, s: Sample) -> Result<Found, Refusal>
+    requires { Within 25000000 25000000 t.sum }
+    ensures { result ≡ joined terms.limits terms.intercept t s }
 {
     if sheet_numbers::wrong_number(s) {
-        let span = t.span;
-        let sum = t.sum;
-        return Found {
-            number: true,
-            third: t.third,
-            again: t.again,
-            span,
-            sum,
-        };
+        return Err(Refusal::SheetNumber);
     }
-    let d = sheet_sample::first_deviation(limits, intercept, s);
-    Found {
-        number: t.number,
-        third: flags::either(t.third, sheet_sample::wrong_third(limits, s)),
-        again: flags::either(t.again, sheet_numbers::has_again(s)),
-        span: widened(limits, t.span, d),
-        sum: whole::add(t.sum, d),
-    }
+    let d = terms.first_deviation(s);
+    Ok(Found {
+        third: t.third || sheet_sample::wrong_third(terms.limits, s),
+        again: t.again || sheet_numbers::has_again(s),
+        span: widened(terms.limits, t.span, d),
+        sum: t.sum + d,
+    })
 }
 
 // The pass stops at a wrong number (5) only: it counts before a wrong third (6), whichever sample has it.
-pub fn pass(limits: Limits, intercept: Int, numbers: &[i32], samples: usize) -> Found
-    requires { Fair limits intercept.z × Sized samples numbers.now }
-    ensures { Passed limits intercept.z (samples_of numbers.now) result }
+pub fn pass(terms: Terms, numbers: &[i32]) -> Result<Found, Refusal>
+    requires { (6 ≤ length numbers.now) × (length numbers.now ≤ 6000) }
+    ensures is { result ≡ found_of terms.limits terms.intercept (samples_of numbers.now) }
+    ensures bounds { IfOk result (Bounded 1000) }
 {
     let mut t = Found {
-        number: false,
         third: false,
         again: false,
         span: Span {
             deviating: false,
-            high: Int { z: LOWEST },
-            low: Int { z: HIGHEST },
+            high: LOWEST,
+            low: HIGHEST,
         },
-        sum: Int { z: 0 },
+        sum: 0,
     };
-    let mut i = 0;
-    while i < samples {
-        t = joined(
-            limits,
-            intercept,
-            t,
-            sheet_numbers::sample_at(numbers, i, samples),
-        );
-        if t.number {
-            return t;
-        }
-        i += 1;
+    for part in numbers.chunks_exact(SAMPLE_NUMBERS) {
+        t = joined(terms, t, sheet_numbers::sample_of(part))?;
     }
-    t
+    Ok(t)
 }
 
 // Rule 3: some sample deviates, and the largest minus the smallest deviation is above twice the range limit.
 pub fn again_round(limits: Limits, s: Span) -> bool
-    requires { (limits.range ≤ 1000) × ((Within 25000 25000 s.high.z) × (Within 25000 25000 s.low.z)) }
+    requires { (limits.range ≤ 1000) × ((Within 25000 25000 s.high) × (Within 25000 25000 s.low)) }
     ensures { result ≡ round_of limits s }
 {
-    let wide = whole::less(whole::of_u32(2 * limits.range), whole::sub(s.high, s.low));
-    flags::both(s.deviating, wide)
+    s.deviating && 2 * (limits.range as i32) < s.high - s.low
 }

@@ -2,101 +2,91 @@
 
 #![tactic(auto)]
 
-ghost use Rattle.std.specs.Prelude.{◌≡◌, ◌≤◌};
-ghost use Rattle.whole.specs.Parts.{Within};
-ghost use Rattle.station_rules.specs.Sheets.{third_due, wrong_third, used_pair, deviation, deviates, first_deviation};
-ghost use Rattle.sheet_numbers.specs.Samples.{sample_of, Measured, Fair};
+ghost use Rattle.std.specs.Prelude.{◌≡◌, ◌≤◌, IfOk};
+ghost use Rattle.whole.specs.Bounds.{Within};
+ghost use Rattle.station_rules.specs.Sheets.{third_due, wrong_third, used_pair, pair_sum, deviation, deviates, first_deviation};
+ghost use Rattle.sheet_numbers.specs.Samples.{Measured, Fair};
 ghost use Rattle.sheet_pairs.specs.Pairs.{pair_of, Small};
-ghost use Rattle.sheet_sample.specs.Rounds.{Rejudged};
+ghost use Rattle.sheet_sample.specs.Rounds.{in_round};
 
-use sheet_numbers::SixNumbers;
-use station_rules::Limits;
-use whole::{Int, flags};
+use station_rules::{Limits, Refusal, Sample};
 
 // First and second differ by more than the pair limit.
-fn third_due(limits: Limits, s: SixNumbers) -> bool
-    requires { Measured (sample_of s) }
-    ensures { result ≡ third_due limits (sample_of s) }
+#[tactic(auto, unfolding(station_rules::specs::Sheets::third_due))]
+fn third_due(limits: Limits, s: Sample) -> bool
+    ensures { result ≡ third_due limits s }
 {
-    limits.pair < sheet_pairs::spread([s.first.z, s.second.z])
+    limits.pair < sheet_pairs::spread([s.first, s.second])
 }
 
 // Number 6, of one sample.
-pub fn wrong_third(limits: Limits, s: SixNumbers) -> bool
-    requires { Measured (sample_of s) }
-    ensures { result ≡ wrong_third limits (sample_of s) }
+pub fn wrong_third(limits: Limits, s: Sample) -> bool
+    ensures { result ≡ wrong_third limits s }
 {
-    flags::unlike(
-        third_due(limits, s),
-        flags::opposite(sheet_numbers::is_absent(s.third)),
-    )
+    let measured = !sheet_numbers::is_absent(s.third);
+    third_due(limits, s) != measured
 }
 
-fn used_pair(limits: Limits, s: SixNumbers) -> [i32; 2]
-    requires { Measured (sample_of s) }
-    ensures { (pair_of result ≡ used_pair limits (sample_of s)) × Small result }
+#[tactic(auto, unfolding(station_rules::specs::Sheets::used_pair))]
+fn used_pair(limits: Limits, s: Sample) -> [i32; 2]
+    requires { Measured s }
+    ensures { (pair_of result ≡ used_pair limits s) × Small result }
 {
     if third_due(limits, s) {
         sheet_pairs::closest_pair(s)
     } else {
-        [s.first.z, s.second.z]
+        [s.first, s.second]
     }
-}
-
-// A pair's sum plus twice the intercept minus twice the baseline.
-fn deviation_of(intercept: Int, baseline: Int, sum: Int) -> Int
-    requires { (Within 1000 1000 intercept.z) × ((Within 1 10000 baseline.z) × (Within 2 20000 sum.z)) }
-    ensures { (result.z ≡ deviation intercept.z baseline.z sum.z) × Within 25000 25000 result.z }
-{
-    let two = Int { z: 2 };
-    whole::sub(
-        whole::add(sum, whole::mul(two, intercept)),
-        whole::mul(two, baseline),
-    )
-}
-
-pub fn first_deviation(limits: Limits, intercept: Int, s: SixNumbers) -> Int
-    requires { (Fair limits intercept.z) × (Measured (sample_of s)) }
-    ensures { (result.z ≡ first_deviation limits intercept.z (sample_of s)) × Within 25000 25000 result.z }
-{
-    deviation_of(
-        intercept,
-        s.baseline,
-        sheet_pairs::pair_sum(used_pair(limits, s)),
-    )
 }
 
 // The magnitude is above twice the sample limit.
-pub fn is_deviating(limits: Limits, d: Int) -> bool
-    requires { (limits.sample ≤ 1000) × (Within 25000 25000 d.z) }
-    ensures { result ≡ deviates limits d.z }
+pub fn is_deviating(limits: Limits, d: i32) -> bool
+    requires { limits.sample ≤ 1000 }
+    ensures { result ≡ deviates limits d }
 {
-    2 * limits.sample < whole::size(d)
+    2 * limits.sample < d.unsigned_abs()
 }
 
-// What an again round makes of a sample: number 7, and its deviation.
+// A line's limits and its intercept, by which nothing wraps.
 #[derive(Clone, Copy)]
-pub struct Again {
-    pub wrong: bool,
-    pub deviation: Int,
+pub struct Terms {
+    pub limits: Limits,
+    pub intercept: i32,
+    pub ghost fair: { Fair limits intercept },
 }
 
-// In an again round an again pair is due for each deviating sample, and its deviation is worked out anew from it.
-pub fn in_round(limits: Limits, intercept: Int, s: SixNumbers) -> Again
-    requires { (Fair limits intercept.z) × (Measured (sample_of s)) }
-    ensures { Rejudged limits intercept.z (sample_of s) result }
-{
-    let first = first_deviation(limits, intercept, s);
-    let there = sheet_numbers::has_again(s);
-    if !is_deviating(limits, first) {
-        return Again {
-            wrong: there,
-            deviation: first,
-        };
+impl Terms {
+    // A pair's sum plus twice the intercept minus twice the baseline.
+    fn deviation_of(self, baseline: i32, pair: [i32; 2]) -> i32
+        requires { (Within 1 10000 baseline) × (Small pair) }
+        ensures { (result ≡ deviation self.intercept baseline (pair_sum (pair_of pair))) × Within 25000 25000 result }
+    {
+        sheet_pairs::pair_sum(pair) + 2 * self.intercept - 2 * baseline
     }
-    let sum = whole::add(s.again_first, s.again_second);
-    Again {
-        wrong: flags::opposite(there),
-        deviation: deviation_of(intercept, s.baseline, sum),
+
+    #[tactic(auto, unfolding(station_rules::specs::Sheets::first_deviation))]
+    pub fn first_deviation(self, s: Sample) -> i32
+        requires { Measured s }
+        ensures { (result ≡ first_deviation self.limits self.intercept s) × Within 25000 25000 result }
+    {
+        self.deviation_of(s.baseline, used_pair(self.limits, s))
+    }
+
+    // In an again round an again pair is due for each deviating sample (number 7), and its deviation is worked out anew from it.
+    #[tactic(auto, unfolding(station_rules::specs::Sheets::final_deviation, crate::specs::Rounds::in_round))]
+    pub fn in_round(self, s: Sample) -> Result<i32, Refusal>
+        requires { Measured s }
+        ensures is { result ≡ in_round self.limits self.intercept s }
+        ensures small { IfOk result (Within 25000 25000) }
+    {
+        let first = self.first_deviation(s);
+        let due = is_deviating(self.limits, first);
+        if due != sheet_numbers::has_again(s) {
+            return Err(Refusal::AgainPair);
+        }
+        if !due {
+            return Ok(first);
+        }
+        Ok(self.deviation_of(s.baseline, [s.again_first, s.again_second]))
     }
 }

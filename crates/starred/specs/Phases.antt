@@ -1,6 +1,7 @@
 -- docs/SPECIFICATION.md, "Cases": which state a line is in, by market tests after lists of calls, on the definitions that the calls' contracts cite and demand 3 folds.
 use Rattle.std.specs.Prelude.{List, [], ◌∷◌, ◌++◌, replicate, ℤ, pos, negsuc}
-use Rattle.station_rules.specs.Sheets.{Sample, numbers_of}
+use Rattle.station_rules.specs.Sheets.{numbers_of}
+use Rattle.station_rules.specs.declared.Sample.{Sample}
 use Rattle.station_rules.specs.Lines.{new_line, adjusted_line, check_due_phase}
 use Rattle.station_rules.specs.Held.{Station}
 use Rattle.station_rules.specs.Stations.{fresh_station}

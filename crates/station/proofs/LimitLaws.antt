@@ -2,7 +2,8 @@
 use mathlib.Core.Path.{◌≡◌, subst⁻¹}
 use Prim.Native.Nat.{ℕ, ◌<◌}
 use lib.IntN.{ℤ}
-use Rattle.whole.specs.Parts.{Within}
+use Rattle.whole.proofs.Parts.{Within}
+use Rattle.whole.proofs.BoundLaws.{in_bounds}
 use Rattle.whole.proofs.Read.{rd, back_in}
 use Rattle.station_rules.specs.Rows.{line_count, limits_of}
 use Rattle.station_rules.proofs.RowFacts.{row_facts}
@@ -16,7 +17,7 @@ module _ (row line : ℕ) (here : line < line_count row) where
   limits_fair {x} {i} e w =
       let f = (row_facts row).line_limits line here in
       subst⁻¹ (λ (y : Limits). Fair y (rd i)) e
-      (record { sample = f.sample.most; range = f.range.most; small = subst⁻¹ (Within 1000 1000) (back_in w tt tt).is w })
+      (record { sample = f.sample.most; range = f.range.most; small = in_bounds (subst⁻¹ (Within 1000 1000) (back_in w tt tt).is w) })
 
   pub limits_limited : Limited (limits_of row line)
   limits_limited =

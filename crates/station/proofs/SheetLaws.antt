@@ -2,7 +2,7 @@
 use mathlib.Core.Path.{◌≡◌, refl, sym, ap, ◌∙◌, subst}
 use mathlib.Core.Bool.{true, false}
 use mathlib.Core.List.{List}
-use mathlib.Core.Option.{Option, none, some}
+use Rattle.std.specs.Prelude.{Result, Ok, Err, Option, None, Some}
 use Prim.Native.Nat.{ℕ, ◌≤◌, ◌<◌}
 use native.Mathlib.Omega.{arith}
 use lib.Dec.{ltb}
@@ -20,21 +20,20 @@ use Rattle.station_rules.proofs.SheetBounds.{set_bounded}
 use Rattle.station_rules.proofs.RowFacts.{row_facts}
 use Rattle.whole.proofs.Tests.{or_none}
 use Rattle.whole.proofs.PartLaws.{size_parts, either}
+use Rattle.whole.proofs.BoundLaws.{in_parts}
 use Rattle.station_rules.specs.declared.Limits.{Limits}
 use Rattle.station_rules.specs.declared.Set.{Set}
 use Rattle.station_rules.specs.Held.{Station}
-use Rattle.station_rules.specs.declared.Refusal.{Refusal}
-use Rattle.station_rules.specs.declared.Refusal.TheVariants.{UnsoundStation, BadDay, UnknownLine}
-use Rattle.station_rules.specs.declared.SheetAnswer.{SheetAnswer}
+use Rattle.station_refusals.specs.declared.Refusal.{Refusal}
+use Rattle.station_refusals.specs.declared.Refusal.TheVariants.{UnsoundStation, BadDay, UnknownLine}
 use Rattle.sheet.specs.Judged.{judged_by, judged_of}
-use Rattle.sheet.specs.declared.answer.Judged.{Judged}
-use Rattle.sheet.specs.declared.answer.Judged.TheVariants.{Counted, Refused}
 use Rattle.line_past.specs.Ranges.{SetsOf}
 use Rattle.station_soundness.proofs.FitsLaws.{size_within, line_fits}
 use Rattle.station.specs.Accepted.{accepted_in, sheet_by, Ruled}
+use Rattle.station_rules.specs.declared.Outcome.{Outcome}
 
-abbrev pub refused_sheet : List ℤ → Refusal → Left SheetAnswer
-refused_sheet words r = record { answer = SheetAnswer.Refused r; places = words }
+abbrev pub refused_sheet : List ℤ → Refusal → Left (Result Outcome Refusal)
+refused_sheet words r = record { answer = Err r; places = words }
 
 module _ (words : List ℤ) (day line : ℕ) (numbers : List ℤ) where
   abbrev s : Station
@@ -54,7 +53,7 @@ module _ (words : List ℤ) (day line : ℕ) (numbers : List ℤ) where
       unfolding sheet_in sheet_of sheet_numbers
       sheet_line_lem h = simp (right, good, le-ltb line (line_count s.row) h)
 
-      pub sheet_by_lem : line < line_count s.row → (j : Judged) → j ≡ judged_of (limits_of s.row line) (values_of s line).intercept (samples s.row) numbers
+      pub sheet_by_lem : line < line_count s.row → (j : (Result Set Refusal)) → j ≡ judged_of (limits_of s.row line) (values_of s line).intercept (samples s.row) numbers
           → sheet_by words day line j ≡ sheet_in words day line numbers
       unfolding sheet_in sheet_of sheet_numbers sheet_places outcome_of sheet_verdict sheet_set judged_of accepted_in
       sheet_by_lem h j e =
@@ -66,38 +65,38 @@ module _ (words : List ℤ) (day line : ℕ) (numbers : List ℤ) where
                 answer = (sheet_result o s (sheet_station s day line numbers) (outcome_of s day line numbers)).answer;
                 places = sheet_left (sheet_result o s (sheet_station s day line numbers) (outcome_of s day line numbers)).answer words (sheet_places words day line numbers);
               }
-          go none = refl
-          go (some number) = refl
+          go None = refl
+          go (Some number) = refl
 
 -- the set that a sheet's numbers come to is in its range
-pub counted_fits : (limits : Limits) (i : ℤ) (n : ℕ) (numbers : List ℤ) (counted : Set) → nat_abs i ≤ 1000 → n ≤ 6 → Counted counted ≡ judged_of limits i n numbers
+pub counted_fits : (limits : Limits) (i : ℤ) (n : ℕ) (numbers : List ℤ) (counted : Set) → nat_abs i ≤ 1000 → n ≤ 6 → Ok counted ≡ judged_of limits i n numbers
     → SetsOf 1 counted.sum counted.count
 unfolding judged_of
 counted_fits limits i n numbers counted hi hn e = go (first_number (sheet_checks limits i n numbers)) refl e
   where
-    go : (o : Option ℕ) → first_number (sheet_checks limits i n numbers) ≡ o → Counted counted ≡ judged_by o (set_of limits i numbers)
+    go : (o : Option ℕ) → first_number (sheet_checks limits i n numbers) ≡ o → Ok counted ≡ judged_by o (set_of limits i numbers)
         → SetsOf 1 counted.sum counted.count
-    go none r e =
+    go None r e =
         let q : counted ≡ set_of limits i numbers = cc in
         let b = set_bounded limits i n numbers hi r in
         subst (λ (x : Set). SetsOf 1 x.sum x.count) (sym q)
         (record { within = size_within 132000 (set_of limits i numbers).sum (omega arith); few = omega arith })
-    go (some number) x e = let z : ◌≡◌ {A = ℕ} 0 1 = cc in absurd (omega arith)
+    go (Some number) x e = let z : ◌≡◌ {A = ℕ} 0 1 = cc in absurd (omega arith)
 
 -- what the numbers of a call on a sound station's line come to
 pub ruled_by : (words : List ℤ) (day line : ℕ) (numbers : List ℤ) → let s = station_in words in
-    sound s ≡ true → (day_check s.day day).applies ≡ false → line < line_count s.row → (j : Judged)
+    sound s ≡ true → (day_check s.day day).applies ≡ false → line < line_count s.row → (j : (Result Set Refusal))
     → j ≡ judged_of (limits_of s.row line) (values_of s line).intercept (samples s.row) numbers → Ruled words day line numbers j
-ruled_by words day line numbers right good here (Refused r) e = sheet_by_lem words day line numbers right good here (Refused r) e
-ruled_by words day line numbers right good here (Counted set) e =
+ruled_by words day line numbers right good here (Err r) e = sheet_by_lem words day line numbers right good here (Err r) e
+ruled_by words day line numbers right good here (Ok set) e =
     let s = station_in words in
     let z = (values_of s line).intercept in
-    let w = (line_fits s line right here).small in (
+    let w = in_parts (line_fits s line right here).small in (
       record {
         right = right;
         today = ltb-false 99999 day (or_none (ltb day s.day) (ltb 99999 day) good).1;
         here = here;
         fits = counted_fits (limits_of s.row line) z (samples s.row) numbers set (omega (arith, size_parts z, either z)) (row_facts s.row).six_samples e;
       },
-      sheet_by_lem words day line numbers right good here (Counted set) e,
+      sheet_by_lem words day line numbers right good here (Ok set) e,
     )

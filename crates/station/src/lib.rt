@@ -3,59 +3,52 @@
 
 #![tactic(auto)]
 
-ghost use Rattle.std.specs.Prelude.{◌≡◌};
+ghost use Rattle.std.specs.Prelude.{◌≡◌, Ok};
 ghost use Rattle.station_rules.specs.InPlace.{open_in, sheet_in, repair_in};
-ghost use Rattle.station_rules.specs.declared.SheetAnswer.{SheetAnswer};
 ghost use Rattle.station.specs.Accepted.{accepted_in, Acceptable, Ruled};
 
-use sheet::Judged;
-use station_rules::{
-    OpenAnswer, Outcome, PastSet, ROW_PLACE, Refusal, RepairAnswer, STATION_PLACES, Set,
-    SheetAnswer,
-};
-use whole::{Int, places};
+use station_rules::{Outcome, PastSet, ROW_PLACE, Refusal, STATION_PLACES, Set};
 
 // ---- opening
 
-// Every place is written: the row, and 0.
-pub fn open(state: &mut [i32; STATION_PLACES], row: usize) -> OpenAnswer
+// Every place is written: the row, and 0. The row is the number that C hands in.
+pub fn open(state: &mut [i32; STATION_PLACES], row: usize) -> Result<(), Refusal>
     ensures { record { answer = result; places = state.new } ≡ open_in row }
 {
-    let zeros = [0; STATION_PLACES];
-    *state = zeros;
+    *state = [0; STATION_PLACES];
     if !row_table::row_exists(row) {
-        return OpenAnswer::Refused(Refusal::UnknownRow);
+        return Err(Refusal::UnknownRow);
     }
-    places::put(state, ROW_PLACE, whole::of_u32(row as u32));
-    OpenAnswer::Opened
+    state[ROW_PLACE] = row as i32;
+    Ok(())
 }
 
 // ---- a sheet
 
 // What the call's numbers come to: 0 and 2 to 7, else S and N.
-fn judge(state: &[i32], day: u32, line: usize, numbers: &[i32]) -> Judged
+fn judge(state: &[i32], day: u32, line: usize, numbers: &[i32]) -> Result<Set, Refusal>
     ensures { Ruled state.now day line numbers.now result }
 {
     if !station_soundness::is_sound(state) {
-        return Judged::Refused(Refusal::UnsoundStation);
+        return Err(Refusal::UnsoundStation);
     }
     if station_soundness::is_bad_day(station_places::day_of(state), day) {
-        return Judged::Refused(Refusal::BadDay);
+        return Err(Refusal::BadDay);
     }
     let row = station_places::row_of(state);
     if row_table::line_count(row) <= line {
-        return Judged::Refused(Refusal::UnknownLine);
+        return Err(Refusal::UnknownLine);
     }
     let l = station_places::line_of(state, line);
     let limits = row_table::limits_of(row, line);
     let samples = row_table::sample_count(row) as usize;
-    sheet::judge(limits, Int { z: l.intercept }, samples, numbers)
+    sheet::judge(limits, l.intercept, samples, numbers)
 }
 
 // An accepted sheet: its line after the set, the day, and the outcome.
 fn accept(state: &mut [i32], day: u32, line: usize, set: Set) -> Outcome
     requires { Acceptable state.old day line set }
-    ensures { record { answer = SheetAnswer.Accepted result; places = state.new } ≡ accepted_in state.old day line set }
+    ensures { record { answer = Ok result; places = state.new } ≡ accepted_in state.old day line set }
 {
     let l = station_places::line_of(state, line);
     let limits = row_table::limits_of(station_places::row_of(state), line);
@@ -67,38 +60,35 @@ fn accept(state: &mut [i32], day: u32, line: usize, set: Set) -> Outcome
     };
     station_places::enter_sheet(state, line, p, v);
     station_places::put_day(state, day);
-    let change = line::change_of(v);
     Outcome {
         sum: set.sum,
         count: set.count,
         phase: line::phase_said(v),
-        change: whole::bare(change),
+        change: line::change_of(v),
     }
 }
 
-pub fn sheet(state: &mut [i32], day: u32, line: usize, numbers: &[i32]) -> SheetAnswer
+pub fn sheet(state: &mut [i32], day: u32, line: usize, numbers: &[i32]) -> Result<Outcome, Refusal>
     ensures { record { answer = result; places = state.new } ≡ sheet_in state.old day line numbers.now }
 {
-    match judge(state, day, line, numbers) {
-        Judged::Counted(set) => SheetAnswer::Accepted(accept(state, day, line, set)),
-        Judged::Refused(r) => SheetAnswer::Refused(r),
-    }
+    let set = judge(state, day, line, numbers)?;
+    Ok(accept(state, day, line, set))
 }
 
 // ---- a repair
 
-pub fn repair(state: &mut [i32], day: u32) -> RepairAnswer
+pub fn repair(state: &mut [i32], day: u32) -> Result<(), Refusal>
     ensures { record { answer = result; places = state.new } ≡ repair_in state.old day }
 {
     if !station_soundness::is_sound(state) {
-        return RepairAnswer::Refused(Refusal::UnsoundStation);
+        return Err(Refusal::UnsoundStation);
     }
     if station_soundness::is_bad_day(station_places::day_of(state), day) {
-        return RepairAnswer::Refused(Refusal::BadDay);
+        return Err(Refusal::BadDay);
     }
     station_places::repair_line(state, 0);
     station_places::repair_line(state, 1);
     station_places::repair_line(state, 2);
     station_places::put_day(state, day);
-    RepairAnswer::Repaired
+    Ok(())
 }

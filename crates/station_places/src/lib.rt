@@ -3,7 +3,7 @@
 #![tactic(auto)]
 
 ghost use Rattle.std.specs.Prelude.{◌≡◌, ◌≤◌, ◌<◌, length};
-ghost use Rattle.whole.specs.Parts.{Within};
+ghost use Rattle.whole.specs.Bounds.{Within};
 ghost use Rattle.station_rules.specs.Lines.{change_of};
 ghost use Rattle.station_rules.specs.Stations.{line_of};
 ghost use Rattle.station_rules.specs.Places.{line_places, station_in};
@@ -11,22 +11,25 @@ ghost use Rattle.station_rules.specs.InPlace.{sheet_line, with_day, with_line, w
 ghost use Rattle.line.specs.Ranges.{SetFits};
 
 use station_rules::{DAY_PLACE, FIRST_LINE, LINE_PLACES, Line, PastSet, ROW_PLACE, Verdict};
-use whole::places;
+
+// A slice of 47 in each contract, and no array type: callers hold a slice, and an array would ask more of them.
 
 // ---- read
 
+#[tactic(auto, using(whole::proofs::PlaceLaws::natural_bits), unfolding(station_rules::specs::Places::station_in, station_rules::specs::Places::row_in))]
 pub fn row_of(state: &[i32]) -> u32
     requires { length state.now ≡ 47 }
     ensures { result ≡ (station_in state.now).row }
 {
-    places::natural_at(state, ROW_PLACE)
+    state[ROW_PLACE].cast_unsigned()
 }
 
+#[tactic(auto, using(whole::proofs::PlaceLaws::natural_bits), unfolding(station_rules::specs::Places::station_in))]
 pub fn day_of(state: &[i32]) -> u32
     requires { length state.now ≡ 47 }
     ensures { result ≡ (station_in state.now).day }
 {
-    places::natural_at(state, DAY_PLACE)
+    state[DAY_PLACE].cast_unsigned()
 }
 
 pub fn line_of(state: &[i32], line: usize) -> Line
@@ -43,7 +46,7 @@ pub fn put_day(state: &mut [i32], day: u32)
     requires { (length state.old ≡ 47) × (day ≤ 99999) }
     ensures { state.new ≡ with_day state.old day }
 {
-    places::put(state, DAY_PLACE, whole::of_u32(day));
+    state[DAY_PLACE] = day as i32;
 }
 
 // A line after a sheet.

@@ -2,7 +2,7 @@
 use mathlib.Core.Path.{◌≡◌, refl, sym, ◌∙◌, ap, subst}
 use mathlib.Core.Bool.{Bool, true, false, cond, true≢false}
 use mathlib.Core.List.{List, [], ◌∷◌}
-use mathlib.Core.Option.{Option, none, some}
+use Rattle.std.specs.Prelude.{Option, None, Some}
 use Prim.Native.Nat.{ℕ, zero, suc, ◌+◌, ◌*◌, ◌/◌, ◌≤◌, ◌<◌}
 use native.Mathlib.Omega.{arith}
 use native.Mathlib.Nat.{mul-le-mul_right, div-lt_iff_lt-mul}
@@ -82,11 +82,11 @@ module _ (limits : Limits) (f : LimitsFacts limits) (set : Set) (some' : 1 ≤ s
   due_fair adjusted_line valid = ((f.check.least, some'), tt)
   due_fair shut_line valid = ((f.check.least, some'), tt)
 
-first_fair : (ts : List Test) (t : Test) → AllFair ts → first_exceeded ts ≡ some t → Fair t × (exceeded t ≡ true)
+first_fair : (ts : List Test) (t : Test) → AllFair ts → first_exceeded ts ≡ Some t → Fair t × (exceeded t ≡ true)
 first_fair [] t f e = let z : ◌≡◌ {A = ℕ} 0 1 = cc in absurd (omega arith)
 first_fair (x ∷ ts) t f e = go (exceeded x) refl e (first_fair ts t f.1)
   where
-    go : (b : Bool) → exceeded x ≡ b → cond b (some x) (first_exceeded ts) ≡ some t → (first_exceeded ts ≡ some t → Fair t × (exceeded t ≡ true))
+    go : (b : Bool) → exceeded x ≡ b → cond b (Some x) (first_exceeded ts) ≡ Some t → (first_exceeded ts ≡ Some t → Fair t × (exceeded t ≡ true))
         → Fair t × (exceeded t ≡ true)
     go true g e ih = let q : x ≡ t = cc in subst (λ (y : Test). Fair y × (exceeded y ≡ true)) q (f.0, g)
     go false g e ih = ih e
@@ -113,8 +113,8 @@ module _ (row line : ℕ) (here : line < line_count row) (v : Values) (day : ℕ
       adjusted t f false e z = let y : ◌≡◌ {A = ℕ} 0 1 = cc in omega arith
 
       by_test : 1 ≤ set.count → (o : Option Test) → first_exceeded (tests_due limits v day set) ≡ o → judged v.intercept o ≡ Adjusted change → change ≡ pos 0 → ⊥
-      by_test some' none g e z = let y : ◌≡◌ {A = ℕ} 0 1 = cc in omega arith
-      by_test some' (some t) g e z =
+      by_test some' None g e z = let y : ◌≡◌ {A = ℕ} 0 1 = cc in omega arith
+      by_test some' (Some t) g e z =
           adjusted t (first_fair (tests_due limits v day set) t (due_fair limits ((row_facts row).line_limits line here) set some' v.phase (valid_on day v.past)) g)
           (sound_intercept (v.intercept -ℤ rounded_average t)) e z
 

@@ -3,7 +3,7 @@ use mathlib.Core.Path.{◌≡◌, refl, sym, ◌∙◌, ap, ap₂, subst⁻¹}
 use mathlib.Core.Logic.{◌≢◌}
 use mathlib.Core.Bool.{Bool, true, false, not, ◌&&◌, cond}
 use mathlib.Core.List.{List, [], ◌∷◌, map}
-use mathlib.Core.Option.{Option, none, some}
+use Rattle.std.specs.Prelude.{Ok, Err, Option, None, Some}
 use Prim.Native.Nat.{ℕ, zero, suc, ◌*◌, ◌%◌, ◌≤◌, ◌<◌}
 use native.Mathlib.Omega.{arith}
 use native.Mathlib.Decide.{ℕ_discrete}
@@ -28,7 +28,6 @@ use Rattle.station_rules.specs.Replies.{Reply, refused_by, outcome, repaired, ce
 use Rattle.station_rules.specs.Calls.{Call, sheet_call, repair_call, market_call, station_after, station_reply, replies, station_after_all}
 use Rattle.station_rules.specs.Books.{Book, SheetEntry, sheet_entry, fresh_book, book_values, book_intercept, book_phase, book_past, book_number, entry_phase, entry_of, accepted, granted_reply, or_refused, or_same, book_reply, book_after, book_replies, book_after_all}
 use Rattle.station_rules.specs.Laws.{OpensFresh, StaysSound}
-use Rattle.station_rules.specs.declared.OpenAnswer.{OpenAnswer}
 use Rattle.station_rules.specs.declared.Outcome.{Outcome}
 use Rattle.station_rules.specs.declared.Certificate.{Certificate}
 use Rattle.station_rules.specs.declared.Scan.{Scan}
@@ -71,8 +70,8 @@ granted_of s (market_call day line scan asked basis) =
     certificate c.day c.intercept c.basis c.figure c.converted
 
 or_stays : Option ℕ → Station → Station → Station
-or_stays none s next = next
-or_stays (some number) s next = s
+or_stays None s next = next
+or_stays (Some number) s next = s
 
 -- every check's number is that of a refusal
 pub all_known : (s : Station) (c : Call) → T (all (λ k. has_refusal k.answer) (checks_of s c))
@@ -84,34 +83,34 @@ all_known s (market_call day line scan asked basis) = tt
 module _ (s next : Station) (outcome : Outcome) where
   sheet_station_lem : (o : Option ℕ) → (sheet_result o s next outcome).station ≡ or_stays o s next
   unfolding or_stays
-  sheet_station_lem none = refl
-  sheet_station_lem (some n) = refl
+  sheet_station_lem None = refl
+  sheet_station_lem (Some n) = refl
 
-  sheet_reply_lem : (o : Option ℕ) → ((n : ℕ) → o ≡ some n → number_of (refusal_of n) ≡ n)
+  sheet_reply_lem : (o : Option ℕ) → ((n : ℕ) → o ≡ Some n → number_of (refusal_of n) ≡ n)
       → sheet_reply (sheet_result o s next outcome).answer ≡ or_refused o (Reply.outcome outcome.sum outcome.count (said_word outcome.phase) outcome.change)
-  sheet_reply_lem none k = refl
-  sheet_reply_lem (some n) k = ap refused_by (k n refl)
+  sheet_reply_lem None k = refl
+  sheet_reply_lem (Some n) k = ap refused_by (k n refl)
 
 module _ (s next : Station) where
   repair_station_lem : (o : Option ℕ) → (repair_result o s next).station ≡ or_stays o s next
   unfolding or_stays
-  repair_station_lem none = refl
-  repair_station_lem (some n) = refl
+  repair_station_lem None = refl
+  repair_station_lem (Some n) = refl
 
-  repair_reply_lem : (o : Option ℕ) → ((n : ℕ) → o ≡ some n → number_of (refusal_of n) ≡ n) → repair_reply (repair_result o s next).answer ≡ or_refused o repaired
-  repair_reply_lem none k = refl
-  repair_reply_lem (some n) k = ap refused_by (k n refl)
+  repair_reply_lem : (o : Option ℕ) → ((n : ℕ) → o ≡ Some n → number_of (refusal_of n) ≡ n) → repair_reply (repair_result o s next).answer ≡ or_refused o repaired
+  repair_reply_lem None k = refl
+  repair_reply_lem (Some n) k = ap refused_by (k n refl)
 
 module _ (s next : Station) (c : Certificate) where
   market_station_lem : (o : Option ℕ) → (market_result o s next c).station ≡ or_stays o s next
   unfolding or_stays
-  market_station_lem none = refl
-  market_station_lem (some n) = refl
+  market_station_lem None = refl
+  market_station_lem (Some n) = refl
 
-  market_reply_lem : (o : Option ℕ) → ((n : ℕ) → o ≡ some n → number_of (refusal_of n) ≡ n)
+  market_reply_lem : (o : Option ℕ) → ((n : ℕ) → o ≡ Some n → number_of (refusal_of n) ≡ n)
       → market_reply (market_result o s next c).answer ≡ or_refused o (certificate c.day c.intercept c.basis c.figure c.converted)
-  market_reply_lem none k = refl
-  market_reply_lem (some n) k = ap refused_by (k n refl)
+  market_reply_lem None k = refl
+  market_reply_lem (Some n) k = ap refused_by (k n refl)
 
 station_is : (s : Station) (c : Call) → station_after s c ≡ or_stays (first_number (checks_of s c)) s (next_of s c)
 unfolding station_after checks_of next_of sheet_of repair_of market_of
@@ -217,12 +216,12 @@ module _ (b : Book) (ls : List Line) (a : Agrees ls b) where
 
 -- ---- what no number leaves
 
-day_ok : (last day : ℕ) (cs : List (Check ℕ)) → first_number (day_check last day ∷ cs) ≡ none → (last ≤ day) × (day ≤ 99999)
+day_ok : (last day : ℕ) (cs : List (Check ℕ)) → first_number (day_check last day ∷ cs) ≡ None → (last ≤ day) × (day ≤ 99999)
 day_ok last day cs e =
     let f = or_none (ltb day last) (ltb 99999 day) (none_head (day_check last day) cs e) in
     (ltb-false day last f.0, ltb-false 99999 day f.1)
 
-pub line_ok : (row line : ℕ) (c : Check ℕ) (cs : List (Check ℕ)) → first_number (c ∷ line_check row line ∷ cs) ≡ none → line < line_count row
+pub line_ok : (row line : ℕ) (c : Check ℕ) (cs : List (Check ℕ)) → first_number (c ∷ line_check row line ∷ cs) ≡ None → line < line_count row
 line_ok row line c cs e =
     ltb→lt line (line_count row) (not_false_T (ltb line (line_count row)) (none_head (line_check row line) cs (none_tail c (line_check row line ∷ cs) e)))
 
@@ -250,7 +249,7 @@ record Next (b : Book) (ls : List Line) (c : Call) : Type 0 where
   agrees : Agrees lines (accepted b c)
 
 module _ (b : Book) (ls : List Line) (a : Agrees ls b) where
-  module _ (day line : ℕ) (numbers : List ℤ) (e : book_number b (sheet_call day line numbers) ≡ none) where
+  module _ (day line : ℕ) (numbers : List ℤ) (e : book_number b (sheet_call day line numbers) ≡ None) where
     sheet_day : (b.day ≤ day) × (day ≤ 99999)
     unfolding book_number sheet_numbers
     sheet_day =
@@ -343,7 +342,7 @@ module _ (b : Book) (ls : List Line) (a : Agrees ls b) where
           agrees = record { exists = a.exists; last = sheet_day.1; three = length-set ls line after ∙ a.three; lines = sheet_lines };
         }
 
-  repair_next : (day : ℕ) → book_number b (repair_call day) ≡ none → Next b ls (repair_call day)
+  repair_next : (day : ℕ) → book_number b (repair_call day) ≡ None → Next b ls (repair_call day)
   unfolding next_of accepted book_number
   repair_next day e =
       let d = day_ok b.day day [] e in
@@ -362,7 +361,7 @@ module _ (b : Book) (ls : List Line) (a : Agrees ls b) where
         };
       }
 
-  market_next : (day line : ℕ) (scan : Scan) (asked : Asked) (basis : Basis) → book_number b (market_call day line scan asked basis) ≡ none → Next b ls (market_call day line scan asked basis)
+  market_next : (day line : ℕ) (scan : Scan) (asked : Asked) (basis : Basis) → book_number b (market_call day line scan asked basis) ≡ None → Next b ls (market_call day line scan asked basis)
   unfolding next_of accepted book_number market_numbers
   market_next day line scan asked basis e =
       let d = day_ok b.day day (line_check b.row line ∷ market_checks b.row (book_values line b.entries) line scan asked basis day) e in
@@ -377,7 +376,7 @@ module _ (b : Book) (ls : List Line) (a : Agrees ls b) where
         };
       }
 
-  next : (c : Call) → book_number b c ≡ none → Next b ls c
+  next : (c : Call) → book_number b c ≡ None → Next b ls c
   next (sheet_call day line numbers) e = sheet_next day line numbers e
   next (repair_call day) e = repair_next day e
   next (market_call day line scan asked basis) e = market_next day line scan asked basis e
@@ -402,7 +401,7 @@ step b ls a c = go (book_number b c) refl
     reply_same = reply_is s c ∙ ap₂ or_refused (number_same b ls a c) (granted_same b ls a c)
 
     go : (o : Option ℕ) → book_number b c ≡ o → Step b ls c
-    go none e =
+    go None e =
         let k = next b ls a c e in
         let same : book_after b c ≡ accepted b c = ap (λ (o : Option ℕ). or_same o b (accepted b c)) e in
         record {
@@ -412,7 +411,7 @@ step b ls a c = go (book_number b c) refl
               ∙ k.station ∙ sym (ap (λ (x : Book). station_of x k.lines) same);
           agrees = subst⁻¹ (λ (x : Book). Agrees k.lines x) same k.agrees;
         }
-    go (some n) e =
+    go (Some n) e =
         let same : book_after b c ≡ b = ap (λ (o : Option ℕ). or_same o b (accepted b c)) e in
         record {
           reply = reply_same;
@@ -468,5 +467,5 @@ stays_sound row h calls = go (fresh_book row) (replicate 3 fresh_line) (fresh_ag
 pub opens_fresh : OpensFresh
 unfolding open_of
 opens_fresh row h =
-    ap (λ (b : Bool). cond b (record { station = fresh_station row; answer = OpenAnswer.Opened }) (record { station = fresh_station 0; answer = OpenAnswer.Refused (refusal_of 1) }))
+    ap (λ (b : Bool). cond b (record { station = fresh_station row; answer = Ok tt }) (record { station = fresh_station 0; answer = Err (refusal_of 1) }))
     (to_true (row_exists row) h)

@@ -2,7 +2,7 @@
 use mathlib.Core.Path.{◌≡◌, refl, ap}
 use mathlib.Core.Bool.{Bool, true, false, not, cond}
 use mathlib.Core.List.{List, [], ◌∷◌}
-use mathlib.Core.Option.{some}
+use Rattle.std.specs.Prelude.{Some}
 use Prim.Native.Nat.{ℕ}
 use native.Mathlib.Omega.{arith}
 use lib.Dec.{eqb}
@@ -36,7 +36,7 @@ met_not_unmet : (line : ℕ) (es : List Entry) → is_met_sheet (newest_touching
 met_not_unmet line [] h = refl
 met_not_unmet line (sheet_entry e ∷ es) h = go (eqb e.line line) h (met_not_unmet line es)
   where
-    go : (b : Bool) → is_met_sheet (cond b (some (sheet_entry e)) (newest_touching line es)) ≡ true
+    go : (b : Bool) → is_met_sheet (cond b (Some (sheet_entry e)) (newest_touching line es)) ≡ true
         → (is_met_sheet (newest_touching line es) ≡ true → newest_unmet (sheets_of line es) ≡ false)
         → newest_unmet (cond b (e ∷ sheets_of line es) (sheets_of line es)) ≡ false
     go true h ih = ap not h

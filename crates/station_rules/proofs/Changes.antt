@@ -2,10 +2,11 @@
 use mathlib.Core.Path.{◌≡◌, refl, sym, ◌∙◌, ap}
 use mathlib.Core.Bool.{Bool, true, false, cond}
 use mathlib.Core.List.{List, [], ◌∷◌, ◌++◌, map}
-use mathlib.Core.Option.{Option, none, some}
+use Rattle.std.specs.Prelude.{Option, None, Some}
 use Prim.Native.Nat.{ℕ}
 use lib.Dec.{eqb}
-use lib.ListN.{length, get_elem?}
+use lib.ListN.{length}
+use Rattle.std.specs.List.{slice_get}
 use lib.IntN.{ℤ, pos, ◌+ℤ◌, +ℤ_assoc, +ℤ_comm, +ℤ_idl, +ℤ_idr}
 use Rattle.whole.specs.Lists.{total}
 use Rattle.station_rules.specs.Replies.{refused_by}
@@ -46,8 +47,8 @@ call_change line b c = go (book_number b c)
     go : (o : Option ℕ)
         → book_intercept line (or_same o b (accepted b c)).entries
         ≡ cond (is_sheet_of line c) (change_in (or_refused o (granted_reply b c))) (pos 0) +ℤ book_intercept line b.entries
-    go none = accepted_change line b c
-    go (some n) = sym (ap (λ (z : ℤ). z +ℤ book_intercept line b.entries) (refused_change line c n) ∙ +ℤ_idl (book_intercept line b.entries))
+    go None = accepted_change line b c
+    go (Some n) = sym (ap (λ (z : ℤ). z +ℤ book_intercept line b.entries) (refused_change line c n) ∙ +ℤ_idl (book_intercept line b.entries))
 
 -- x + i and then g is i and then x + g
 regroup : (x i g : ℤ) → (x +ℤ i) +ℤ g ≡ i +ℤ (x +ℤ g)
@@ -80,8 +81,8 @@ unfolding book_after
 row_after b c = go (book_number b c)
   where
     go : (o : Option ℕ) → (or_same o b (accepted b c)).row ≡ b.row
-    go none = accepted_row b c
-    go (some n) = refl
+    go None = accepted_row b c
+    go (Some n) = refl
 
 pub row_after_all : (b : Book) (calls : List Call) → (book_after_all b calls).row ≡ b.row
 row_after_all b [] = refl
@@ -90,6 +91,6 @@ row_after_all b (c ∷ cs) = row_after_all (book_after b c) cs ∙ row_after b c
 -- ---- the reply at a place
 
 pub reply_at : (b : Book) (before after : List Call) (c : Call)
-    → get_elem? (book_replies b (before ++ c ∷ after)) (length before) ≡ some (book_reply (book_after_all b before) c)
+    → slice_get (book_replies b (before ++ c ∷ after)) (length before) ≡ Some (book_reply (book_after_all b before) c)
 reply_at b [] after c = refl
 reply_at b (x ∷ xs) after c = reply_at (book_after b x) xs after c

@@ -2,7 +2,7 @@
 use mathlib.Core.Path.{◌≡◌, refl, sym, ◌∙◌, ap}
 use mathlib.Core.Bool.{Bool, true, false, not, ◌||◌, cond, true≢false}
 use mathlib.Core.List.{List, [], ◌∷◌}
-use mathlib.Core.Option.{Option, none, some}
+use Rattle.std.specs.Prelude.{Option, None, Some}
 use Prim.Native.Nat.{ℕ, ◌+◌, ◌≤◌}
 use native.Mathlib.Omega.{arith}
 use lib.Dec.{T, eqb, leb, ltb, leb→le, ltb→lt, lt→ltb}
@@ -99,7 +99,7 @@ or_false a b p q = rw (p, q)
 
 module _ (b : Book) (day line : ℕ) (scan : Scan) (asked : Asked) (basis : Basis) where
   -- no number applies: the conditions hold
-  pub conditions_from : book_number b (market_call day line scan asked basis) ≡ none → MarketConditions b day line scan asked basis
+  pub conditions_from : book_number b (market_call day line scan asked basis) ≡ None → MarketConditions b day line scan asked basis
   unfolding book_number market_numbers market_checks corrected_value too_high book_values
   conditions_from e =
       let f = none_applies (market_numbers b.row b.day (book_values line b.entries) day line scan asked basis) e in
@@ -125,7 +125,7 @@ module _ (b : Book) (day line : ℕ) (scan : Scan) (asked : Asked) (basis : Basi
       }
 
   -- the conditions hold: no number applies
-  pub conditions_to : MarketConditions b day line scan asked basis → book_number b (market_call day line scan asked basis) ≡ none
+  pub conditions_to : MarketConditions b day line scan asked basis → book_number b (market_call day line scan asked basis) ≡ None
   unfolding book_number market_numbers market_checks corrected_value too_high book_values
   conditions_to c =
       no_number (market_numbers b.row b.day (book_values line b.entries) day line scan asked basis) (
@@ -179,23 +179,23 @@ open_met false true true f g h = absurd (h refl)
 open_met false true false f g h = absurd (g refl)
 open_met false false z f g h = absurd (f refl)
 
-met_entry : (o : Option Entry) → is_met_sheet o ≡ true → (e : SheetEntry) × (o ≡ some (sheet_entry e)) × (e.met ≡ true)
-met_entry none h = let q : ◌≡◌ {A = ℕ} 0 1 = cc in absurd (omega arith)
-met_entry (some (sheet_entry e)) h = (e, refl, h)
-met_entry (some (repair_entry d)) h = let q : ◌≡◌ {A = ℕ} 0 1 = cc in absurd (omega arith)
+met_entry : (o : Option Entry) → is_met_sheet o ≡ true → (e : SheetEntry) × (o ≡ Some (sheet_entry e)) × (e.met ≡ true)
+met_entry None h = let q : ◌≡◌ {A = ℕ} 0 1 = cc in absurd (omega arith)
+met_entry (Some (sheet_entry e)) h = (e, refl, h)
+met_entry (Some (repair_entry d)) h = let q : ◌≡◌ {A = ℕ} 0 1 = cc in absurd (omega arith)
 
 -- the newest entry touching the line, a sheet that met, is the newest past set
-newest_past : (line : ℕ) (es : List Entry) (e : SheetEntry) → newest_touching line es ≡ some (sheet_entry e) → e.met ≡ true
+newest_past : (line : ℕ) (es : List Entry) (e : SheetEntry) → newest_touching line es ≡ Some (sheet_entry e) → e.met ≡ true
     → newest_day (book_past line es) ≡ e.day
 unfolding book_past
 newest_past line [] e h m = let q : ◌≡◌ {A = ℕ} 0 1 = cc in absurd (omega arith)
 newest_past line (sheet_entry x ∷ es) e h m = go (eqb x.line line) refl (newest_past line es e)
   where
     go : (t : Bool) → eqb x.line line ≡ t
-        → (newest_touching line es ≡ some (sheet_entry e) → e.met ≡ true → newest_day (book_past line es) ≡ e.day)
+        → (newest_touching line es ≡ Some (sheet_entry e) → e.met ≡ true → newest_day (book_past line es) ≡ e.day)
         → newest_day (book_past line (sheet_entry x ∷ es)) ≡ e.day
     go true g ih =
-        let k : some (sheet_entry x) ≡ some (sheet_entry e) = rw g at h in
+        let k : Some (sheet_entry x) ≡ Some (sheet_entry e) = rw g at h in
         let y : x ≡ e = cc in
         let n : x.met ≡ true = ap (λ (z : SheetEntry). z.met) y ∙ m in
         simp (g, n) (ap (λ (z : SheetEntry). z.day) y)

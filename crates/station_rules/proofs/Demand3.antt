@@ -1,11 +1,12 @@
 -- Demand 3 holds of every list of calls from a fresh station of any product row.
 use mathlib.Core.Path.{◌≡◌, refl, sym, ◌∙◌, ap, subst, subst⁻¹}
 use mathlib.Core.List.{List, ◌∷◌, ◌++◌}
-use mathlib.Core.Option.{Option, none, some}
+use Rattle.std.specs.Prelude.{Option, None, Some}
 use Prim.Native.Nat.{ℕ}
 use native.Mathlib.Omega.{arith}
 use lib.Dec.{T, ltb, ltb→lt}
-use lib.ListN.{length, get_elem?, replicate}
+use lib.ListN.{length, replicate}
+use Rattle.std.specs.List.{slice_get}
 use lib.IntN.{ℤ, pos, nat_abs, ◌+ℤ◌}
 use lib.Signed.{yes_non_neg, pos-nat_abs}
 use Rattle.reading.specs.Reading.{reading_of}
@@ -38,7 +39,7 @@ use Rattle.station_rules.proofs.Changes.{changes, row_after_all, reply_at}
 
 -- ---- the book never answers number 0
 
-applies_above : (b : Book) (c : Call) (n : ℕ) → book_number b c ≡ some n → T (ltb 0 n)
+applies_above : (b : Book) (c : Call) (n : ℕ) → book_number b c ≡ Some n → T (ltb 0 n)
 unfolding book_number sheet_numbers sheet_checks market_numbers market_checks
 applies_above b (sheet_call day line numbers) n e =
     number_passes (ltb 0) (sheet_numbers b.row b.day (book_values line b.entries) day line numbers) n tt e
@@ -57,8 +58,8 @@ unfolding book_reply
 book_never0 b c e = go (book_number b c) refl e
   where
     go : (o : Option ℕ) → book_number b c ≡ o → or_refused o (granted_reply b c) ≡ refused_by 0 → ⊥
-    go none q e = granted_not b c e
-    go (some n) q e = let z : n ≡ 0 = cc in omega (arith, ltb→lt 0 n (applies_above b c n q))
+    go None q e = granted_not b c e
+    go (Some n) q e = let z : n ≡ 0 = cc in omega (arith, ltb→lt 0 n (applies_above b c n q))
 
 -- ---- the book's answer to a market test
 
@@ -69,7 +70,7 @@ module _ (b : Book) (day line : ℕ) (scan : Scan) (asked : Asked) (basis : Basi
 
   -- where the book replies with a certificate no number applies, and the intercept, B and the figure at B are the book's
   record Given (d : ℕ) (i basis' : ℤ) (figure converted : ℕ) : Type 0 where
-    none_applies : book_number b (market_call day line scan asked basis) ≡ none
+    none_applies : book_number b (market_call day line scan asked basis) ≡ None
     intercept_is : i ≡ ours.intercept
     basis_is : basis' ≡ ours.basis
     figure_is : converted ≡ ours.converted
@@ -82,8 +83,8 @@ module _ (b : Book) (day line : ℕ) (scan : Scan) (asked : Asked) (basis : Basi
       go : (o : Option ℕ) → book_number b (market_call day line scan asked basis) ≡ o
           → or_refused o (granted_reply b (market_call day line scan asked basis)) ≡ certificate d i basis' figure converted
           → Given d i basis' figure converted
-      go none r e = record { none_applies = r; intercept_is = cc; basis_is = cc; figure_is = cc }
-      go (some n) r e = let q : ◌≡◌ {A = ℕ} 0 1 = cc in absurd (omega arith)
+      go None r e = record { none_applies = r; intercept_is = cc; basis_is = cc; figure_is = cc }
+      go (Some n) r e = let q : ◌≡◌ {A = ℕ} 0 1 = cc in absurd (omega arith)
 
   -- where the conditions hold it does
   issued : MarketConditions b day line scan asked basis
@@ -129,20 +130,20 @@ module _ (row : ℕ) (exists : T (row_exists row)) where
 
   -- the reply at a place of the list is the book's
   reply_there : (calls before after : List Call) (c : Call) → calls ≡ before ++ c ∷ after
-      → get_elem? (replies (fresh_station row) calls) (length before) ≡ some (book_reply (book_after_all (fresh_book row) before) c)
+      → slice_get (replies (fresh_station row) calls) (length before) ≡ Some (book_reply (book_after_all (fresh_book row) before) c)
   reply_there calls before after c split =
-      ap (λ (r : List Reply). get_elem? r (length before)) (agrees row exists calls)
-      ∙ ap (λ (cs : List Call). get_elem? (book_replies (fresh_book row) cs) (length before)) split
+      ap (λ (r : List Reply). slice_get r (length before)) (agrees row exists calls)
+      ∙ ap (λ (cs : List Call). slice_get (book_replies (fresh_book row) cs) (length before)) split
       ∙ reply_at (fresh_book row) before after c
 
   module _ (before : List Call) (day line : ℕ) (scan : Scan) (asked : Asked) (basis : Basis) where
-    claim : (reply : Option Reply) → reply ≡ some (book_reply (book_after_all (fresh_book row) before) (market_call day line scan asked basis))
+    claim : (reply : Option Reply) → reply ≡ Some (book_reply (book_after_all (fresh_book row) before) (market_call day line scan asked basis))
         → MarketClaim row before day line scan asked basis reply
     claim reply e =
         record {
           exactly = (
             (λ w. conditions_from b day line scan asked basis (ours_of w.0 w.1 w.2 w.3 w.4 w.5).none_applies),
-            (λ c. let o = ours b day line scan asked basis in (o.day, o.intercept, o.basis, o.figure, o.converted, e ∙ ap some (issued b day line scan asked basis c))),
+            (λ c. let o = ours b day line scan asked basis in (o.day, o.intercept, o.basis, o.figure, o.converted, e ∙ ap Some (issued b day line scan asked basis c))),
           );
           rests = rests_on b day line scan asked basis (falls before line);
           basis_asked = λ d i basis' figure converted w.
@@ -167,7 +168,7 @@ module _ (row : ℕ) (exists : T (row_exists row)) where
         same_row : b.row ≡ row
         same_row = row_after_all (fresh_book row) before
 
-        ours_of : (d : ℕ) (i basis' : ℤ) (figure converted : ℕ) → reply ≡ some (certificate d i basis' figure converted)
+        ours_of : (d : ℕ) (i basis' : ℤ) (figure converted : ℕ) → reply ≡ Some (certificate d i basis' figure converted)
             → Given b day line scan asked basis d i basis' figure converted
         ours_of d i basis' figure converted w =
             given b day line scan asked basis d i basis' figure converted
@@ -186,6 +187,6 @@ demand3 row exists calls =
           (let r = reply_there row exists calls before after c split in
           let q : book_reply (book_after_all (fresh_book row) before) c ≡ refused_by 0 = cc in q);
       markets = λ before after day line scan asked basis split.
-          claim row exists before day line scan asked basis (get_elem? (replies (fresh_station row) calls) (length before))
+          claim row exists before day line scan asked basis (slice_get (replies (fresh_station row) calls) (length before))
           (reply_there row exists calls before after (market_call day line scan asked basis) split);
     }

@@ -6,7 +6,7 @@ use native.Mathlib.Nat.{mul_assoc, mul_left_comm, add-mul, mul-div-mul_right}
 use native.Mathlib.Omega.{arith}
 use lib.Dec.{leb, leb→le, lit<}
 use lib.IntN.{ℤ, pos, negsuc, nat_abs}
-use Rattle.whole.specs.Parts.{Within}
+use Rattle.whole.proofs.Parts.{Within}
 use Rattle.whole.proofs.Tests.{and_r, of_true}
 use Rattle.station_rules.specs.Markets.{basis_from, corrected_value, within, tenths, tenths_at, certificate_of}
 use Rattle.station_rules.specs.Laws.{StandardEqual}

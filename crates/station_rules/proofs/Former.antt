@@ -2,11 +2,11 @@
 use mathlib.Core.Path.{◌≡◌, refl, sym, ◌∙◌, ap, ap₂}
 use mathlib.Core.Bool.{Bool, true, false, not, ◌||◌, cond}
 use mathlib.Core.List.{List, [], ◌∷◌, map}
-use mathlib.Core.Option.{Option, none, some}
+use Rattle.std.specs.Prelude.{Option, None, Some}
 use Prim.Native.Nat.{ℕ, zero, suc, ◌+◌}
 use native.Mathlib.Omega.{arith}
 use lib.Dec.{T, ltb, eqb, eqb→eq}
-use lib.ListN.{get_elem?}
+use Rattle.std.specs.List.{slice_get}
 use lib.IntN.{ℤ, nat_abs}
 use Rattle.whole.specs.Lists.{Check}
 use Rattle.reading.specs.Reading.{in_range}
@@ -34,21 +34,21 @@ use Rattle.station_rules.proofs.Agreement.{checks_of, granted_of, all_known, rep
 -- ---- the number
 
 abbrev formerly : Option ℕ → Option ℕ
-formerly none = none
-formerly (some n) = some (former_number n)
+formerly None = None
+formerly (Some n) = Some (former_number n)
 
 -- a check of both lists
-same_check : (a : Bool) (n : ℕ) (o p : Option ℕ) → former_number n ≡ n → p ≡ formerly o → cond a (some n) p ≡ formerly (cond a (some n) o)
-same_check true n o p e h = ap some (sym e)
+same_check : (a : Bool) (n : ℕ) (o p : Option ℕ) → former_number n ≡ n → p ≡ formerly o → cond a (Some n) p ≡ formerly (cond a (Some n) o)
+same_check true n o p e h = ap Some (sym e)
 same_check false n o p e h = h
 
 -- the numbers in the place of 12, and those after it
 phase_checks : (phase : LinePhase) (old high : Bool)
-    → cond (not (is_open phase)) (some 12) (cond old (some 13) (cond high (some 14) none))
-    ≡ formerly (cond (is_new phase) (some 12) (cond (is_adjusted phase) (some 25) (cond (is_shut phase) (some 26) (cond old (some 13) (cond high (some 14) none)))))
+    → cond (not (is_open phase)) (Some 12) (cond old (Some 13) (cond high (Some 14) None))
+    ≡ formerly (cond (is_new phase) (Some 12) (cond (is_adjusted phase) (Some 25) (cond (is_shut phase) (Some 26) (cond old (Some 13) (cond high (Some 14) None)))))
 phase_checks new_line old high = refl
 phase_checks open_line old high =
-    same_check old 13 (cond high (some 14) none) (cond high (some 14) none) refl (same_check high 14 none none refl refl)
+    same_check old 13 (cond high (Some 14) None) (cond high (Some 14) None) refl (same_check high 14 None None refl refl)
 phase_checks adjusted_line old high = refl
 phase_checks shut_line old high = refl
 
@@ -80,8 +80,8 @@ module _ (s : Station) (day line : ℕ) (scan : Scan) (asked : Asked) (basis : B
 
 module _ (s next : Station) (c : Certificate) where
   same_station : (o : Option ℕ) → (market_result (formerly o) s next c).station ≡ (market_result o s next c).station
-  same_station none = refl
-  same_station (some n) = refl
+  same_station None = refl
+  same_station (Some n) = refl
 
   known_former : (n : ℕ) → number_of (refusal_of n) ≡ n → number_of (refusal_of (former_number n)) ≡ former_number n
   known_former n e = go (eqb n 25 || eqb n 26)
@@ -90,10 +90,10 @@ module _ (s next : Station) (c : Certificate) where
       go true = refl
       go false = e
 
-  reply_was_lem : (o : Option ℕ) → ((n : ℕ) → o ≡ some n → number_of (refusal_of n) ≡ n)
+  reply_was_lem : (o : Option ℕ) → ((n : ℕ) → o ≡ Some n → number_of (refusal_of n) ≡ n)
       → market_reply (market_result (formerly o) s next c).answer ≡ as_formerly (market_reply (market_result o s next c).answer)
-  reply_was_lem none k = refl
-  reply_was_lem (some n) k = ap refused_by (known_former n (k n refl) ∙ ap former_number (sym (k n refl)))
+  reply_was_lem None k = refl
+  reply_was_lem (Some n) k = ap refused_by (known_former n (k n refl) ∙ ap former_number (sym (k n refl)))
 
 -- ---- a call
 
@@ -110,13 +110,13 @@ after_same s (market_call day line scan asked basis) =
 abbrev stays : ℕ → Bool
 stays n = eqb (former_number n) n
 
-refused_same : (cs : List (Check ℕ)) (reply : Reply) → ((n : ℕ) → first_number cs ≡ some n → T (stays n)) → reply ≡ as_formerly reply
+refused_same : (cs : List (Check ℕ)) (reply : Reply) → ((n : ℕ) → first_number cs ≡ Some n → T (stays n)) → reply ≡ as_formerly reply
     → or_refused (first_number cs) reply ≡ as_formerly (or_refused (first_number cs) reply)
 refused_same cs reply f e = go (first_number cs) refl
   where
     go : (o : Option ℕ) → first_number cs ≡ o → or_refused o reply ≡ as_formerly (or_refused o reply)
-    go none q = e
-    go (some n) q = ap refused_by (sym (eqb→eq (former_number n) n (f n q)))
+    go None q = e
+    go (Some n) q = ap refused_by (sym (eqb→eq (former_number n) n (f n q)))
 
 reply_same : (s : Station) (c : Call) → former_reply s c ≡ as_formerly (station_reply s c)
 unfolding former_reply station_reply former_market market_of checks_of granted_of sheet_numbers sheet_checks former_all
@@ -147,10 +147,10 @@ after_all_same s (c ∷ cs) = ap (λ (t : Station). former_after_all t cs) (afte
 -- ---- certificates
 
 abbrev reply_was : Option Reply → Option Reply
-reply_was none = none
-reply_was (some r) = some (as_formerly r)
+reply_was None = None
+reply_was (Some r) = Some (as_formerly r)
 
-at_place : (rs : List Reply) (place : ℕ) → get_elem? (map as_formerly rs) place ≡ reply_was (get_elem? rs place)
+at_place : (rs : List Reply) (place : ℕ) → slice_get (map as_formerly rs) place ≡ reply_was (slice_get rs place)
 at_place [] place = refl
 at_place (r ∷ rs) zero = refl
 at_place (r ∷ rs) (suc place) = at_place rs place
@@ -159,13 +159,13 @@ module _ (d : ℕ) (i b : ℤ) (figure converted : ℕ) where
   abbrev given : Reply
   given = certificate d i b figure converted
 
-  was_certificate : (o : Option Reply) → reply_was o ≡ some given → o ≡ some given
-  was_certificate none e = let z : ◌≡◌ {A = ℕ} 0 1 = cc in absurd (omega arith)
-  was_certificate (some (refused_by n)) e = let z : ◌≡◌ {A = ℕ} 0 1 = cc in absurd (omega arith)
-  was_certificate (some opening) e = e
-  was_certificate (some (outcome sum count phase change)) e = e
-  was_certificate (some repaired) e = e
-  was_certificate (some (certificate d' i' b' figure' converted')) e = e
+  was_certificate : (o : Option Reply) → reply_was o ≡ Some given → o ≡ Some given
+  was_certificate None e = let z : ◌≡◌ {A = ℕ} 0 1 = cc in absurd (omega arith)
+  was_certificate (Some (refused_by n)) e = let z : ◌≡◌ {A = ℕ} 0 1 = cc in absurd (omega arith)
+  was_certificate (Some opening) e = e
+  was_certificate (Some (outcome sum count phase change)) e = e
+  was_certificate (Some repaired) e = e
+  was_certificate (Some (certificate d' i' b' figure' converted')) e = e
 
 pub certified_as_before : CertifiedAsBefore
 certified_as_before =
@@ -174,8 +174,8 @@ certified_as_before =
       after = after_all_same;
       book = λ row exists calls. answers_same _ calls ∙ ap (map as_formerly) (agrees row exists calls);
       certificates = λ s calls place d i b figure converted.
-          let was = ap (λ (rs : List Reply). get_elem? rs place) (answers_same s calls) ∙ at_place (replies s calls) place in (
+          let was = ap (λ (rs : List Reply). slice_get rs place) (answers_same s calls) ∙ at_place (replies s calls) place in (
             (λ e. was ∙ ap reply_was e),
-            (λ e. was_certificate d i b figure converted (get_elem? (replies s calls) place) (sym was ∙ e)),
+            (λ e. was_certificate d i b figure converted (slice_get (replies s calls) place) (sym was ∙ e)),
           );
     }

@@ -2,15 +2,16 @@
 use mathlib.Core.Path.{◌≡◌, refl, sym, ◌∙◌, ap, subst}
 use mathlib.Core.Bool.{Bool, true, false, not, ◌||◌, ◌&&◌, true≢false}
 use mathlib.Core.List.{List, ◌∷◌, map}
-use mathlib.Core.Option.{Option, none, some}
+use Rattle.std.specs.Prelude.{Ok, Option, None, Some}
 use Prim.Native.Nat.{ℕ, zero, suc, ◌+◌, ◌*◌, ◌-◌, ◌/◌}
 use native.Mathlib.Omega.{arith}
 use lib.Dec.{T, eqb, lit<}
 use lib.Ieee.{Float, of_bits}
 use lib.IntN.{ℤ, pos, negsuc, neg_ℤ, nat_abs, ◌-ℤ◌, ◌*ℤ◌}
 use borrow.Author.Tests.{not-false, ltb-true}
+use Rattle.std.proofs.lemmas.Int.{ints}
 use Rattle.whole.specs.Lists.{Check}
-use Rattle.whole.specs.Parts.{up, down}
+use Rattle.whole.proofs.Parts.{up, down}
 use Rattle.whole.specs.Rounding.{rounded_away}
 use Rattle.whole.proofs.PartLaws.{either, size_parts, neg_up, neg_down, times, diff}
 use Rattle.whole.proofs.RoundLaws.{rounded_below}
@@ -33,7 +34,6 @@ use Rattle.station_rules.specs.declared.Scan.{Scan}
 use Rattle.station_rules.specs.declared.Scan.TheVariants.{Wheat, WheatGluten}
 use Rattle.station_rules.specs.declared.WheatSet.{WheatSet}
 use Rattle.station_rules.specs.declared.WheatClass.{WheatClass}
-use Rattle.station_rules.specs.declared.MarketAnswer.TheVariants.{Certified}
 use Rattle.station_rules.specs.declared.Asked.{Asked}
 use Rattle.station_rules.specs.declared.Asked.TheVariants.{LineFigure, Gluten}
 use Rattle.station_rules.specs.declared.Basis.{Basis}
@@ -61,7 +61,7 @@ module _ (m : ℕ) where
 
   below_is : derived_intercept (negsuc m) ≡ neg_ℤ (pos ((2 * nat_abs product_below + 1000) / 2000))
   unfolding derived_intercept
-  below_is = sym (rounded_below product_below 1000 (omega (arith, neg_down (pos (suc m * 3029)))))
+  below_is = sym (rounded_below product_below 1000 (omega (arith, ints)))
 
 derived_up : (i : ℤ) → up (derived_intercept i) ≡ part (up i)
 unfolding derived_intercept rounded_away
@@ -119,13 +119,13 @@ gluten_certificate_lem s day line scan class basis c e = go (first_number checks
     checks = sound_check s ∷ market_numbers s.row s.day v day line scan (Gluten class) basis
 
     go : (o : Option ℕ) → first_number checks ≡ o
-        → (market_result o s (market_station s day) (certificate_of s.row v line scan (Gluten class) basis)).answer ≡ Certified c
+        → (market_result o s (market_station s day) (certificate_of s.row v line scan (Gluten class) basis)).answer ≡ Ok c
         → c ≡ gluten_certificate v line scan class
-    go none q e =
+    go None q e =
         let standard = basis_from_lem (Gluten class) basis (none_applies checks q).1.1.1.1.1.0 class refl in
         let same : c ≡ certificate_of s.row v line scan (Gluten class) basis = cc in
         same ∙ ap (certificate_of s.row v line scan (Gluten class)) standard ∙ at_standard s.row v line scan class
-    go (some n) q e = let z : ◌≡◌ {A = ℕ} 0 1 = cc in absurd (omega arith)
+    go (Some n) q e = let z : ◌≡◌ {A = ℕ} 0 1 = cc in absurd (omega arith)
 
 -- ---- numbers 10 and 14
 
@@ -211,8 +211,8 @@ module _ (s : Station) (day line : ℕ) (scan : Scan) (class : WheatClass) (basi
     where
       go : (o : Option ℕ) → first_number (checks_of s (market_call day line scan (Gluten class) basis)) ≡ o
           → or_refused o (granted_of s (market_call day line scan (Gluten class) basis)) ≡ refused_by n → ⊥
-      go none q r = let z : ◌≡◌ {A = ℕ} 0 1 = cc in omega arith
-      go (some m) q r =
+      go None q r = let z : ◌≡◌ {A = ℕ} 0 1 = cc in omega arith
+      go (Some m) q r =
           let z : m ≡ n = cc in
           f (subst (λ (k : ℕ). T (neither k)) z (first_passes neither (checks_of s (market_call day line scan (Gluten class) basis)) m passes q))
 

@@ -2,7 +2,7 @@
 use mathlib.Core.Path.{◌≡◌, refl, ◌∙◌, ap, subst}
 use mathlib.Core.Bool.{Bool, true, false, ◌&&◌, cond}
 use mathlib.Core.List.{List, [], ◌∷◌}
-use mathlib.Core.Option.{Option, none, some}
+use Rattle.std.specs.Prelude.{Ok, Err, Option, None, Some}
 use Prim.Native.Nat.{ℕ, zero, suc, ◌<◌}
 use native.Mathlib.Omega.{arith}
 use lib.Dec.{T, eqb, leb, ltb}
@@ -29,7 +29,6 @@ use Rattle.station_rules.specs.declared.PastSet.{PastSet}
 use Rattle.station_rules.specs.declared.Line.{Line}
 use Rattle.station_rules.specs.declared.Verdict.{Verdict}
 use Rattle.station_rules.specs.declared.Verdict.TheVariants.{Met, Adjusted, Shut}
-use Rattle.station_rules.specs.declared.OpenAnswer.{OpenAnswer}
 use Rattle.station_rules.specs.declared.Certificate.{Certificate}
 use Rattle.station_rules.specs.declared.Scan.{Scan}
 use Rattle.station_rules.specs.declared.Asked.{Asked}
@@ -208,14 +207,14 @@ open_holds row = go (row_exists row)
   where
     opening : Bool → Opening
     opening there =
-        cond there (record { station = fresh_station row; answer = OpenAnswer.Opened }) (record { station = fresh_station 0; answer = OpenAnswer.Refused (refusal_of 1) })
+        cond there (record { station = fresh_station row; answer = Ok tt }) (record { station = fresh_station 0; answer = Err (refusal_of 1) })
 
     go : (there : Bool) → station_in (open_left row (opening there).answer) ≡ (opening there).station
     go true = refl
     go false = refl
 
 -- where no number applies, the station is sound, so it has 47 places
-places_47 : (words : List ℤ) (cs : List (Check ℕ)) → first_number (sound_check (station_in words) ∷ cs) ≡ none → length words ≡ 47
+places_47 : (words : List ℤ) (cs : List (Check ℕ)) → first_number (sound_check (station_in words) ∷ cs) ≡ None → length words ≡ 47
 places_47 words cs e = all_places words (not-false (sound (station_in words)) (none_head (sound_check (station_in words)) cs e))
 
 pub sheet_holds : (words : List ℤ) (day line : ℕ) (numbers : List ℤ)
@@ -232,8 +231,8 @@ sheet_holds words day line numbers = go (first_number (sound_check s ∷ sheet_n
     go : (o : Option ℕ) → first_number (sound_check s ∷ sheet_numbers s.row s.day v day line numbers) ≡ o
         → station_in (sheet_left (sheet_result o s (sheet_station s day line numbers) (outcome_of s day line numbers)).answer words (sheet_places words day line numbers))
         ≡ (sheet_result o s (sheet_station s day line numbers) (outcome_of s day line numbers)).station
-    go (some n) e = refl
-    go none e =
+    go (Some n) e = refl
+    go None e =
         let cs = sheet_checks (limits_of s.row line) v.intercept (samples s.row) numbers in
         let here = line_ok s.row line (day_check s.day day) cs (none_tail (sound_check s) (day_check s.day day ∷ line_check s.row line ∷ cs) e) in
         sheet_written words (places_47 words (sheet_numbers s.row s.day v day line numbers) e) day line numbers (omega (arith, (row_facts s.row).three_lines))
@@ -247,8 +246,8 @@ repair_holds words day = go (first_number (sound_check s ∷ repair_numbers s.da
 
     go : (o : Option ℕ) → first_number (sound_check s ∷ repair_numbers s.day day) ≡ o
         → station_in (repair_left (repair_result o s (repair_station s day)).answer words (repair_places words day)) ≡ (repair_result o s (repair_station s day)).station
-    go (some n) e = refl
-    go none e = repair_written words (places_47 words (repair_numbers s.day day) e) day
+    go (Some n) e = refl
+    go None e = repair_written words (places_47 words (repair_numbers s.day day) e) day
 
 pub market_holds : (words : List ℤ) (day line : ℕ) (scan : Scan) (asked : Asked) (basis : Basis)
     → station_in (market_in words day line scan asked basis).places ≡ (market_of (station_in words) day line scan asked basis).station
@@ -266,8 +265,8 @@ market_holds words day line scan asked basis = go (first_number (sound_check s �
 
     go : (o : Option ℕ) → first_number (sound_check s ∷ numbers) ≡ o
         → station_in (market_left (market_result o s (market_station s day) c).answer words (market_places words day)) ≡ (market_result o s (market_station s day) c).station
-    go (some n) e = refl
-    go none e = day_written words (places_47 words numbers e) day
+    go (Some n) e = refl
+    go None e = day_written words (places_47 words numbers e) day
 
 pub holds_station : HoldsStation
 holds_station = record { opening = open_holds; sheet = sheet_holds; repair = repair_holds; market = market_holds }

@@ -2,7 +2,7 @@
 use mathlib.Core.Path.{◌≡◌, refl, sym, ◌∙◌, ap, ap₂}
 use mathlib.Core.Bool.{Bool, true, false, not, ◌&&◌, ◌||◌, cond}
 use mathlib.Core.List.{List, [], ◌∷◌, map, Permᴰ}
-use mathlib.Core.Option.{Option, none, some, get_or}
+use Rattle.std.specs.Prelude.{Option, None, Some, unwrap_or}
 use Prim.Native.Nat.{ℕ, suc, ◌*◌}
 use native.Mathlib.Omega.{arith}
 use lib.Dec.{eqb}
@@ -13,7 +13,8 @@ use Rattle.whole.specs.Lists.{any, total, larger_of, smaller_of, largest, smalle
 use Rattle.whole.proofs.ListLaws.{any_map, larger_comm, larger_swaps, smaller_comm, smaller_swaps}
 use Rattle.station_rules.specs.Lists.{keep}
 use Rattle.station_rules.specs.Rows.{limits_of, samples}
-use Rattle.station_rules.specs.Sheets.{Sample, samples_of, numbers_of, wrong_number, wrong_third, wrong_again, deviates, first_deviation, final_deviation, again_round, kept, kept_samples, set_of, sheet_checks}
+use Rattle.station_rules.specs.Sheets.{samples_of, numbers_of, wrong_number, wrong_third, wrong_again, deviates, first_deviation, final_deviation, again_round, kept, kept_samples, set_of, sheet_checks}
+use Rattle.station_rules.specs.declared.Sample.{Sample}
 use Rattle.station_rules.specs.Judging.{sheet_numbers, sheet_set, sheet_verdict}
 use Rattle.station_rules.specs.Held.{Station}
 use Rattle.station_rules.specs.Stations.{SheetResult, sheet_of, sheet_station, outcome_of, values_of}
@@ -82,24 +83,24 @@ module _ {A : Type 0} where
 module _ (m : ℤ → ℤ → ℤ) (comm : (x y : ℤ) → m x y ≡ m y x) (swaps : (x y z : ℤ) → m x (m y z) ≡ m y (m x z))
     (E : List ℤ → ℤ) (nil : E [] ≡ pos 0) (one : (x : ℤ) → E (x ∷ []) ≡ x) (more : (x y : ℤ) (ys : List ℤ) → E (x ∷ y ∷ ys) ≡ m x (E (y ∷ ys))) where
   chosen : ℤ → Option ℤ → Option ℤ
-  chosen x none = some x
-  chosen x (some y) = some (m x y)
+  chosen x None = Some x
+  chosen x (Some y) = Some (m x y)
 
   chosen_swaps : (x y : ℤ) (o : Option ℤ) → chosen x (chosen y o) ≡ chosen y (chosen x o)
   unfolding chosen
-  chosen_swaps x y none = ap some (comm x y)
-  chosen_swaps x y (some z) = ap some (swaps x y z)
+  chosen_swaps x y None = ap Some (comm x y)
+  chosen_swaps x y (Some z) = ap Some (swaps x y z)
 
   best : List ℤ → Option ℤ
-  best [] = none
+  best [] = None
   best (x ∷ xs) = chosen x (best xs)
 
-  chosen_more : (x y : ℤ) (o : Option ℤ) → m x (get_or (chosen y o) (pos 0)) ≡ get_or (chosen x (chosen y o)) (pos 0)
+  chosen_more : (x y : ℤ) (o : Option ℤ) → m x (unwrap_or (chosen y o) (pos 0)) ≡ unwrap_or (chosen x (chosen y o)) (pos 0)
   unfolding chosen
-  chosen_more x y none = refl
-  chosen_more x y (some z) = refl
+  chosen_more x y None = refl
+  chosen_more x y (Some z) = refl
 
-  best_is : (l : List ℤ) → E l ≡ get_or (best l) (pos 0)
+  best_is : (l : List ℤ) → E l ≡ unwrap_or (best l) (pos 0)
   unfolding best chosen
   best_is [] = nil
   best_is (x ∷ []) = one x
@@ -109,7 +110,7 @@ module _ (m : ℤ → ℤ → ℤ) (comm : (x y : ℤ) → m x y ≡ m y x) (swa
   unfolding best
   extreme_order {A} f {l} {k} d =
       best_is (map f l)
-      ∙ ap (λ (o : Option ℤ). get_or o (pos 0)) (fold_order f chosen chosen_swaps (λ (l : List A). best (map f l)) (λ a l. refl) d)
+      ∙ ap (λ (o : Option ℤ). unwrap_or o (pos 0)) (fold_order f chosen chosen_swaps (λ (l : List A). best (map f l)) (λ a l. refl) d)
       ∙ sym (best_is (map f k))
 
 largest_order : {A : Type 0} (f : A → ℤ) {l k : List A} → Permᴰ l k → largest (map f l) ≡ largest (map f k)

@@ -2,7 +2,7 @@
 use mathlib.Core.Path.{◌≡◌, refl}
 use mathlib.Core.Bool.{Bool, true, false, not, ◌&&◌, ◌||◌, cond}
 use mathlib.Core.List.{List, [], ◌∷◌, map}
-use mathlib.Core.Option.{none}
+use Rattle.std.specs.Prelude.{None}
 use Prim.Native.Nat.{ℕ, suc, ◌+◌, ◌*◌, ◌%◌, ◌≤◌}
 use native.Mathlib.Omega.{arith}
 use native.Mathlib.Nat.{mul-mod_right}
@@ -12,12 +12,13 @@ use lib.IntN.{ℤ, pos, negsuc, nat_abs, ◌-ℤ◌, ◌*ℤ◌}
 use Rattle.whole.specs.Lists.{any, all, total, differ}
 use Rattle.station_rules.specs.Lists.{keep}
 use Rattle.station_rules.specs.Refusals.{first_number}
-use Rattle.station_rules.specs.Sheets.{Sample, samples_of, is_result, absent, wrong_number, wrong_third, wrong_again, Pair, pair, spread, pair_sum, closer, closest_pair, third_due, used_pair, deviation, first_deviation, final_deviation, again_round, again_due, kept, kept_samples, set_of, sheet_checks}
+use Rattle.station_rules.specs.Sheets.{samples_of, is_result, absent, wrong_number, wrong_third, wrong_again, Pair, pair, spread, pair_sum, closer, closest_pair, third_due, used_pair, deviation, first_deviation, final_deviation, again_round, again_due, kept, kept_samples, set_of, sheet_checks}
 use Rattle.whole.proofs.Tests.{and_l, and_r, and_i, or_none, not_false_T}
 use Rattle.whole.proofs.ListLaws.{by_test}
 use Rattle.station_rules.proofs.Checks.{none_applies}
 use Rattle.station_rules.proofs.Magnitudes.{abs_sum, abs_difference, abs_twice, swap_sum}
 use Rattle.station_rules.specs.declared.Set.{Set}
+use Rattle.station_rules.specs.declared.Sample.{Sample}
 use Rattle.station_rules.specs.declared.Limits.{Limits}
 
 -- an integer from 0 to n
@@ -195,7 +196,7 @@ pub record Bounded (n : ℕ) (set : Set) : Type 0 where
   pub size : nat_abs set.sum ≤ 11000 * set.count
 
 pub set_bounded : (limits : Limits) (i : ℤ) (n : ℕ) (numbers : List ℤ) → nat_abs i ≤ 1000
-    → first_number (sheet_checks limits i n numbers) ≡ none → Bounded n (set_of limits i numbers)
+    → first_number (sheet_checks limits i n numbers) ≡ None → Bounded n (set_of limits i numbers)
 unfolding sheet_checks set_of kept_samples
 set_bounded limits i n numbers hi e =
     bounded (samples_of numbers) (again_round limits i (samples_of numbers)) (length_samples numbers)
@@ -218,7 +219,7 @@ set_bounded limits i n numbers hi e =
         }
 
 -- N alone needs no bound of the intercept
-pub count_bounded : (limits : Limits) (i : ℤ) (n : ℕ) (numbers : List ℤ) → first_number (sheet_checks limits i n numbers) ≡ none → (set_of limits i numbers).count ≤ 2 * n
+pub count_bounded : (limits : Limits) (i : ℤ) (n : ℕ) (numbers : List ℤ) → first_number (sheet_checks limits i n numbers) ≡ None → (set_of limits i numbers).count ≤ 2 * n
 unfolding sheet_checks set_of kept_samples
 count_bounded limits i n numbers e =
     let ss = samples_of numbers in

@@ -2,7 +2,7 @@
 use mathlib.Core.Path.{◌≡◌, refl, sym, ◌∙◌, ap}
 use mathlib.Core.Bool.{Bool, true, false, not, ◌&&◌, ◌||◌, cond, true≢false}
 use mathlib.Core.List.{List, [], ◌∷◌}
-use mathlib.Core.Option.{Option, none, some}
+use Rattle.std.specs.Prelude.{Option, None, Some}
 use Prim.Native.Nat.{ℕ, zero, suc, ◌≤◌}
 use native.Mathlib.Omega.{arith}
 use lib.Dec.{eqb, ltb}
@@ -31,8 +31,8 @@ adjust_small true i average e h = leb-true (nat_abs (i -ℤ average)) 1000 e
 adjust_small false i average e h = rw (+ℤ_idr i) h
 
 judged_small : (i : ℤ) (o : Option Test) → nat_abs i ≤ 1000 → nat_abs (i +ℤ change_of (judged i o)) ≤ 1000
-judged_small i none h = rw (+ℤ_idr i) h
-judged_small i (some t) h = adjust_small (sound_intercept (i -ℤ rounded_average t)) i (rounded_average t) refl h
+judged_small i None h = rw (+ℤ_idr i) h
+judged_small i (Some t) h = adjust_small (sound_intercept (i -ℤ rounded_average t)) i (rounded_average t) refl h
 
 cond_small : (b : Bool) (i : ℤ) (w : Verdict) → nat_abs i ≤ 1000 → nat_abs (i +ℤ change_of w) ≤ 1000 → nat_abs (i +ℤ change_of (cond b Shut w)) ≤ 1000
 cond_small true i w h k = rw (+ℤ_idr i) h
@@ -44,7 +44,7 @@ none_exceeded i [] = refl
 none_exceeded i (t ∷ ts) = go (exceeded t) (none_exceeded i ts)
   where
     go : (b : Bool) → is_met (judged i (first_exceeded ts)) ≡ not (any exceeded ts)
-        → is_met (judged i (cond b (some t) (first_exceeded ts))) ≡ not (b || any exceeded ts)
+        → is_met (judged i (cond b (Some t) (first_exceeded ts))) ≡ not (b || any exceeded ts)
     go true ih = adjust_met (sound_intercept (i -ℤ rounded_average t)) (neg_ℤ (rounded_average t))
     go false ih = ih
 

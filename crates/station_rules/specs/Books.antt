@@ -1,7 +1,7 @@
 -- docs/SPECIFICATION.md, "The book": fed only the row and the calls' arguments other than the station, it holds the row, the day of the last accepted call and all
 -- accepted sheets and repairs, and answers by what it reads off them.
 use Rattle.std.specs.Prelude.{ℕ, Bool, true, false, not, ◌&&◌, cond, List, [], ◌∷◌, map, eqb, ℤ, pos, nat_abs}
-use Rattle.std.proofs.Math.Option.{Option, none, some}
+use Rattle.std.specs.Prelude.{Option, None, Some}
 use Rattle.whole.specs.Lists.{total}
 use Rattle.station_rules.specs.Lists.{up_to}
 use Rattle.station_rules.specs.Rows.{limits_of}
@@ -47,9 +47,9 @@ module _ (line : ℕ) where
 
   -- the newest sheet or repair touching the line; a repair touches all lines
   abbrev pub newest_touching : List Entry → Option Entry
-  newest_touching [] = none
-  newest_touching (sheet_entry e ∷ es) = cond (eqb e.line line) (some (sheet_entry e)) (newest_touching es)
-  newest_touching (repair_entry d ∷ es) = some (repair_entry d)
+  newest_touching [] = None
+  newest_touching (sheet_entry e ∷ es) = cond (eqb e.line line) (Some (sheet_entry e)) (newest_touching es)
+  newest_touching (repair_entry d ∷ es) = Some (repair_entry d)
 
   -- a repair, or a sheet of the line that didn't meet
   abbrev pub ends_past : Entry → Bool
@@ -58,9 +58,9 @@ module _ (line : ℕ) where
 
 -- a sheet that met
 abbrev pub is_met_sheet : Option Entry → Bool
-is_met_sheet none = false
-is_met_sheet (some (sheet_entry e)) = e.met
-is_met_sheet (some (repair_entry d)) = false
+is_met_sheet None = false
+is_met_sheet (Some (sheet_entry e)) = e.met
+is_met_sheet (Some (repair_entry d)) = false
 
 -- the newest sheet didn't meet
 abbrev pub newest_unmet : List SheetEntry → Bool
@@ -143,12 +143,12 @@ granted_reply b (market_call day line scan asked basis) =
     certificate c.day c.intercept c.basis c.figure c.converted
 
 abbrev pub or_refused : Option ℕ → Reply → Reply
-or_refused none reply = reply
-or_refused (some number) reply = refused_by number
+or_refused None reply = reply
+or_refused (Some number) reply = refused_by number
 
 abbrev pub or_same : Option ℕ → Book → Book → Book
-or_same none b next = next
-or_same (some number) b next = b
+or_same None b next = next
+or_same (Some number) b next = b
 
 -- the book's answer
 unfoldable pub book_reply : Book → Call → Reply

@@ -4,7 +4,8 @@ use Rattle.std.specs.Prelude.{◌≡◌, List, [], ◌∷◌, ◌++◌, map, ℕ
 use Rattle.std.specs.Float.Ieee.{of_bits}
 use Rattle.std.specs.Float.{binary32}
 use Rattle.reading.specs.Reading.{unit, Said, hundredths, answer_of, said_by}
-use Rattle.station_rules.specs.Sheets.{Sample, numbers_of}
+use Rattle.station_rules.specs.Sheets.{numbers_of}
+use Rattle.station_rules.specs.declared.Sample.{Sample}
 use Rattle.station_rules.specs.Lines.{LinePhase, new_line, open_line, adjusted_line, shut_line, open_phase}
 use Rattle.station_rules.specs.Held.{phase_code, no_sets, fresh_line}
 use Rattle.station_rules.specs.Stations.{fresh_station, line_of, sheet_of, market_of}

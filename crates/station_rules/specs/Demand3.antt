@@ -1,7 +1,7 @@
 -- The third demand (docs/SPECIFICATION.md, "The book"): one claim about a list of calls from a fresh station of a row. Every answer is spoken of as a `Reply`.
 use Rattle.std.specs.Prelude.{◌≡◌, ◌↔◌, Bool, true, false, cond, List, [], ◌∷◌, ◌++◌, ℕ, ◌+◌, ◌-◌, ◌*◌, ◌≤◌, ◌<◌, T, eqb, length, ℤ, pos, nat_abs, ◌+ℤ◌, ◌-ℤ◌, ◌*ℤ◌, ◌≤ℤ◌, Float}
-use Rattle.std.proofs.Math.Option.{Option, some}
-use Rattle.std.proofs.Math.ListN.{get_elem?}
+use Rattle.std.specs.Prelude.{Option, Some}
+use Rattle.std.specs.List.{slice_get}
 use Rattle.std.specs.Float.{fin, binary32}
 use Rattle.std.specs.Float.Ieee.{fits, up, down}
 use Rattle.reading.specs.Reading.{unit, units_of, reading_of, in_range}
@@ -53,7 +53,7 @@ module _ (b : Book) (day line : ℕ) (scan : Scan) (asked : Asked) (basis : Basi
 -- the newest accepted sheet or repair touching the line is a sheet that met every average due, at most 7 days earlier
 pub record RestsOn (b : Book) (day line : ℕ) : Type 0 where
   pub entry : SheetEntry
-  pub newest : newest_touching line b.entries ≡ some (sheet_entry entry)
+  pub newest : newest_touching line b.entries ≡ Some (sheet_entry entry)
   pub met : entry.met ≡ true
   pub earlier : entry.day ≤ day
   pub at_most7 : day ≤ entry.day + 7
@@ -109,7 +109,7 @@ module _ (row : ℕ) (before : List Call) (day line : ℕ) (scan : Scan) (asked 
 
   -- the reply is this certificate
   abbrev pub Certifies : (d : ℕ) (i b : ℤ) (figure converted : ℕ) → Type 0
-  Certifies d i b figure converted = reply ≡ some (certificate d i b figure converted)
+  Certifies d i b figure converted = reply ≡ Some (certificate d i b figure converted)
 
   -- the reply is some certificate
   abbrev pub Issued : Type 0
@@ -138,8 +138,8 @@ pub record Demand3 (row : ℕ) (calls : List Call) : Type 0 where
   -- number 0 never applies: the station is sound before each call of the list, and no reply is that number
   pub sound : (before after : List Call) → calls ≡ before ++ after → is_sound (station_after_all (fresh_station row) before) ≡ true
   pub never0 : (before after : List Call) (c : Call) → calls ≡ before ++ c ∷ after
-      → get_elem? (replies (fresh_station row) calls) (length before) ≡ some (refused_by 0) → ⊥
+      → slice_get (replies (fresh_station row) calls) (length before) ≡ Some (refused_by 0) → ⊥
   -- and for each market test of the list
   pub markets : (before after : List Call) (day line : ℕ) (scan : Scan) (asked : Asked) (basis : Basis)
       → calls ≡ before ++ market_call day line scan asked basis ∷ after
-      → MarketClaim row before day line scan asked basis (get_elem? (replies (fresh_station row) calls) (length before))
+      → MarketClaim row before day line scan asked basis (slice_get (replies (fresh_station row) calls) (length before))

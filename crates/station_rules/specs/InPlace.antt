@@ -1,6 +1,6 @@
 -- The four calls on a station in its caller's places: each answers as the call of `Stations` does on the station that the places hold, a refused one
 -- writes nothing, and an accepted one writes what is listed here. The places after it hold the station that the call of `Stations` hands back.
-use Rattle.std.specs.Prelude.{ℕ, suc, ◌+◌, min, ◌≡◌, cond, List, [], ◌∷◌, ◌++◌, ltb, ℤ, pos, ◌+ℤ◌, take, drop, set, replicate}
+use Rattle.std.specs.Prelude.{Result, Ok, Err, ℕ, suc, ◌+◌, min, ◌≡◌, cond, List, [], ◌∷◌, ◌++◌, ltb, ℤ, pos, ◌+ℤ◌, take, drop, set, replicate}
 use Rattle.station_rules.specs.Lines.{LinePhase, new_line, open_line, adjusted_line, shut_line, past_set}
 use Rattle.station_rules.specs.Held.{phase_word, phase_code}
 use Rattle.station_rules.specs.Judging.{sheet_set, sheet_verdict}
@@ -15,10 +15,9 @@ use Rattle.station_rules.specs.declared.Basis.{Basis}
 use Rattle.station_rules.specs.declared.PastSet.{PastSet}
 use Rattle.station_rules.specs.declared.Verdict.{Verdict}
 use Rattle.station_rules.specs.declared.Verdict.TheVariants.{Met, Adjusted, Shut}
-use Rattle.station_rules.specs.declared.OpenAnswer.{OpenAnswer}
-use Rattle.station_rules.specs.declared.SheetAnswer.{SheetAnswer}
-use Rattle.station_rules.specs.declared.RepairAnswer.{RepairAnswer}
-use Rattle.station_rules.specs.declared.MarketAnswer.{MarketAnswer}
+use Rattle.station_rules.specs.declared.Outcome.{Outcome}
+use Rattle.station_rules.specs.declared.Certificate.{Certificate}
+use Rattle.station_refusals.specs.declared.Refusal.{Refusal}
 
 -- what a call leaves: its answer, and what stands in the places
 pub record Left (A : Type 0) : Type 0 where
@@ -99,37 +98,37 @@ market_places words day = with_day words day
 -- ---- the calls
 
 -- a refused opening leaves a fresh station of row 0
-abbrev pub open_left : ℕ → OpenAnswer → List ℤ
-open_left row OpenAnswer.Opened = opened_station row
-open_left row (OpenAnswer.Refused r) = opened_station 0
+abbrev pub open_left : ℕ → (Result Unit Refusal) → List ℤ
+open_left row (Ok tt) = opened_station row
+open_left row (Err r) = opened_station 0
 
-unfoldable pub open_in : ℕ → Left OpenAnswer
+unfoldable pub open_in : ℕ → Left (Result Unit Refusal)
 open_in row = record { answer = (open_of row).answer; places = open_left row (open_of row).answer }
 
 -- any other refused call leaves the places as they came
-abbrev pub sheet_left : SheetAnswer → (came written : List ℤ) → List ℤ
-sheet_left (SheetAnswer.Accepted o) came written = written
-sheet_left (SheetAnswer.Refused r) came written = came
+abbrev pub sheet_left : Result Outcome Refusal → (came written : List ℤ) → List ℤ
+sheet_left (Ok o) came written = written
+sheet_left (Err r) came written = came
 
-unfoldable pub sheet_in : List ℤ → ℕ → ℕ → List ℤ → Left SheetAnswer
+unfoldable pub sheet_in : List ℤ → ℕ → ℕ → List ℤ → Left (Result Outcome Refusal)
 sheet_in words day line numbers =
     let answer = (sheet_of (station_in words) day line numbers).answer in
     record { answer = answer; places = sheet_left answer words (sheet_places words day line numbers) }
 
-abbrev pub repair_left : RepairAnswer → (came written : List ℤ) → List ℤ
-repair_left RepairAnswer.Repaired came written = written
-repair_left (RepairAnswer.Refused r) came written = came
+abbrev pub repair_left : Result Unit Refusal → (came written : List ℤ) → List ℤ
+repair_left (Ok tt) came written = written
+repair_left (Err r) came written = came
 
-unfoldable pub repair_in : List ℤ → ℕ → Left RepairAnswer
+unfoldable pub repair_in : List ℤ → ℕ → Left (Result Unit Refusal)
 repair_in words day =
     let answer = (repair_of (station_in words) day).answer in
     record { answer = answer; places = repair_left answer words (repair_places words day) }
 
-abbrev pub market_left : MarketAnswer → (came written : List ℤ) → List ℤ
-market_left (MarketAnswer.Certified c) came written = written
-market_left (MarketAnswer.Refused r) came written = came
+abbrev pub market_left : Result Certificate Refusal → (came written : List ℤ) → List ℤ
+market_left (Ok c) came written = written
+market_left (Err r) came written = came
 
-unfoldable pub market_in : List ℤ → ℕ → ℕ → Scan → Asked → Basis → Left MarketAnswer
+unfoldable pub market_in : List ℤ → ℕ → ℕ → Scan → Asked → Basis → Left (Result Certificate Refusal)
 market_in words day line scan asked basis =
     let answer = (market_of (station_in words) day line scan asked basis).answer in
     record { answer = answer; places = market_left answer words (market_places words day) }

@@ -1,10 +1,11 @@
 -- Statements that follow from the rules, promised for every station.
-use Rattle.std.specs.Prelude.{◌≡◌, ◌↔◌, true, false, ℕ, ◌*◌, ◌≤◌, ◌<◌, T, length, ℤ, pos, nat_abs, ◌-ℤ◌, ◌*ℤ◌, Float}
+use Rattle.std.specs.Prelude.{Ok, ◌≡◌, ◌↔◌, true, false, ℕ, ◌*◌, ◌≤◌, ◌<◌, T, length, ℤ, pos, nat_abs, ◌-ℤ◌, ◌*ℤ◌, Float}
 use mathlib.Core.List.{List, Permᴰ, map}
-use Rattle.std.proofs.Math.Option.{some}
-use Rattle.std.proofs.Math.ListN.{get_elem?}
+use Rattle.std.specs.Prelude.{Some}
+use Rattle.std.specs.List.{slice_get}
 use Rattle.station_rules.specs.Rows.{row_exists, line_count, limits_of}
-use Rattle.station_rules.specs.Sheets.{Sample, samples_of, numbers_of}
+use Rattle.station_rules.specs.Sheets.{samples_of, numbers_of}
+use Rattle.station_rules.specs.declared.Sample.{Sample}
 use Rattle.station_rules.specs.Lines.{Values, verdict_of, met_every, is_met, change_of, phase_after}
 use Rattle.station_rules.specs.Markets.{derived_intercept, corrected_value, newest_day, tenths, certificate_of}
 use Rattle.station_rules.specs.Soundness.{sound}
@@ -24,12 +25,10 @@ use Rattle.station_rules.specs.declared.Asked.{Asked}
 use Rattle.station_rules.specs.declared.Basis.{Basis}
 use Rattle.station_rules.specs.Held.{Station}
 use Rattle.station_rules.specs.declared.Certificate.{Certificate}
-use Rattle.station_rules.specs.declared.OpenAnswer.{OpenAnswer}
-use Rattle.station_rules.specs.declared.MarketAnswer.{MarketAnswer}
 
 -- an opening of an existing row hands back its fresh station
 abbrev pub OpensFresh : Type 0
-OpensFresh = (row : ℕ) → T (row_exists row) → open_of row ≡ record { station = fresh_station row; answer = OpenAnswer.Opened }
+OpensFresh = (row : ℕ) → T (row_exists row) → open_of row ≡ record { station = fresh_station row; answer = Ok tt }
 
 -- the station stays sound along every list of calls
 abbrev pub StaysSound : Type 0
@@ -54,7 +53,7 @@ pub record CertifiedAsBefore : Type 0 where
   pub book : (row : ℕ) → T (row_exists row) → (calls : List Call) → former_replies (fresh_station row) calls ≡ map as_formerly (book_replies (fresh_book row) calls)
   -- so a certificate is issued exactly where it was, and it is the same one
   pub certificates : (s : Station) (calls : List Call) (place d : ℕ) (i b : ℤ) (figure converted : ℕ)
-      → (get_elem? (replies s calls) place ≡ some (certificate d i b figure converted)) ↔ (get_elem? (former_replies s calls) place ≡ some (certificate d i b figure converted))
+      → (slice_get (replies s calls) place ≡ Some (certificate d i b figure converted)) ↔ (slice_get (former_replies s calls) place ≡ Some (certificate d i b figure converted))
 
 -- for the standard basis both figures are equal
 abbrev pub StandardEqual : Type 0
@@ -89,7 +88,7 @@ gluten_certificate v line scan class =
 -- and every one that is issued is this
 abbrev pub GlutenCertificate : Type 0
 GlutenCertificate = (s : Station) (day line : ℕ) (scan : Scan) (class : WheatClass) (basis : Basis) (c : Certificate)
-    → (market_of s day line scan (Asked.Gluten class) basis).answer ≡ MarketAnswer.Certified c → c ≡ gluten_certificate (values_of s line) line scan class
+    → (market_of s day line scan (Asked.Gluten class) basis).answer ≡ Ok c → c ≡ gluten_certificate (values_of s line) line scan class
 
 -- 10 and 14 are never answered where gluten is asked
 pub record GlutenNumbers : Type 0 where

@@ -1,6 +1,6 @@
 -- docs/SPECIFICATION.md, "A line between sheets": the tests due of a set, the adjustment, and when a sheet met every average due.
 use Rattle.std.specs.Prelude.{ℕ, ◌+◌, ◌*◌, Bool, true, false, not, ◌&&◌, ◌||◌, cond, List, [], ◌∷◌, leb, ltb, eqb, ℤ, pos, neg_ℤ, nat_abs, ◌+ℤ◌, ◌-ℤ◌}
-use Rattle.std.proofs.Math.Option.{Option, none, some}
+use Rattle.std.specs.Prelude.{Option, None, Some}
 use Rattle.whole.specs.Lists.{any, above, below}
 use Rattle.whole.specs.Rounding.{rounded_away}
 use Rattle.station_rules.specs.Lists.{keep}
@@ -91,8 +91,8 @@ tests_due limits v day set = tests_by limits v.phase set (valid_on day v.past)
 
 -- the first test exceeded
 abbrev pub first_exceeded : List Test → Option Test
-first_exceeded [] = none
-first_exceeded (t ∷ ts) = cond (exceeded t) (some t) (first_exceeded ts)
+first_exceeded [] = None
+first_exceeded (t ∷ ts) = cond (exceeded t) (Some t) (first_exceeded ts)
 
 -- a test's average, rounded to a whole hundredth with halves away from zero
 abbrev pub rounded_average : Test → ℤ
@@ -108,8 +108,8 @@ adjust_by intercept average = cond (sound_intercept (intercept -ℤ average)) (A
 
 -- the first test exceeded adjusts by its average; where none is, the set met every average due
 abbrev pub judged : ℤ → Option Test → Verdict
-judged intercept none = Met
-judged intercept (some t) = adjust_by intercept (rounded_average t)
+judged intercept None = Met
+judged intercept (Some t) = adjust_by intercept (rounded_average t)
 
 -- what a set does to its line: N = 0 shuts it, else the tests due decide
 unfoldable pub verdict_of : Limits → Values → ℕ → Set → Verdict

@@ -3,17 +3,9 @@ use Rattle.std.specs.Prelude.{ℕ, ◌*◌, Bool, false, not, ◌&&◌, ◌||◌
 use Rattle.std.specs.Int.Signed.{le_z, lt_z}
 use Rattle.whole.specs.Lists.{differ, any, total, largest, smallest, Check}
 use Rattle.station_rules.specs.Lists.{keep}
+use Rattle.station_rules.specs.declared.Sample.{Sample}
 use Rattle.station_rules.specs.declared.Set.{Set}
 use Rattle.station_rules.specs.declared.Limits.{Limits}
-
--- six numbers a sample
-pub record Sample : Type 0 where
-  pub baseline : ℤ
-  pub first : ℤ
-  pub second : ℤ
-  pub third : ℤ
-  pub again_first : ℤ
-  pub again_second : ℤ
 
 -- the samples of a sheet's numbers
 unfoldable pub samples_of : List ℤ → List Sample

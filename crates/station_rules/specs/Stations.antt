@@ -1,6 +1,6 @@
 -- The four calls of a station: opening, sheet, repair and market test. A refused call hands back the station as it came.
-use Rattle.std.specs.Prelude.{ℕ, cond, List, ◌∷◌, map, get_or, set, replicate, ℤ}
-use Rattle.std.proofs.Math.Option.{Option, none, some}
+use Rattle.std.specs.Prelude.{Result, Ok, Err, ℕ, cond, List, ◌∷◌, map, get_or, set, replicate, ℤ}
+use Rattle.std.specs.Prelude.{Option, None, Some}
 use Rattle.station_rules.specs.Rows.{row_exists}
 use Rattle.station_rules.specs.Refusals.{first_number, refusal_of}
 use Rattle.station_rules.specs.Lines.{Values, past_set, change_of}
@@ -15,27 +15,24 @@ use Rattle.station_rules.specs.declared.Line.{Line}
 use Rattle.station_rules.specs.declared.Outcome.{Outcome}
 use Rattle.station_rules.specs.declared.Certificate.{Certificate}
 use Rattle.station_rules.specs.Held.{Station}
-use Rattle.station_rules.specs.declared.OpenAnswer.{OpenAnswer}
-use Rattle.station_rules.specs.declared.SheetAnswer.{SheetAnswer}
-use Rattle.station_rules.specs.declared.RepairAnswer.{RepairAnswer}
-use Rattle.station_rules.specs.declared.MarketAnswer.{MarketAnswer}
+use Rattle.station_refusals.specs.declared.Refusal.{Refusal}
 
 -- what a call leaves: the station, and what it answers
 pub record Opening : Type 0 where
   pub station : Station
-  pub answer : OpenAnswer
+  pub answer : Result Unit Refusal
 
 pub record SheetResult : Type 0 where
   pub station : Station
-  pub answer : SheetAnswer
+  pub answer : Result Outcome Refusal
 
 pub record RepairResult : Type 0 where
   pub station : Station
-  pub answer : RepairAnswer
+  pub answer : Result Unit Refusal
 
 pub record MarketResult : Type 0 where
   pub station : Station
-  pub answer : MarketAnswer
+  pub answer : Result Certificate Refusal
 
 -- a fresh station: its row, fresh lines, day 0
 abbrev pub fresh_station : ℕ → Station
@@ -45,8 +42,8 @@ fresh_station row = record { row = row; day = 0; lines = replicate 3 fresh_line 
 unfoldable pub open_of : ℕ → Opening
 open_of row =
     cond (row_exists row)
-    (record { station = fresh_station row; answer = OpenAnswer.Opened })
-    (record { station = fresh_station 0; answer = OpenAnswer.Refused (refusal_of 1) })
+    (record { station = fresh_station row; answer = Ok tt })
+    (record { station = fresh_station 0; answer = Err (refusal_of 1) })
 
 -- the station's line, and what the rules judge it by
 abbrev pub line_of : Station → ℕ → Line
@@ -77,8 +74,8 @@ outcome_of s day line numbers =
     record { sum = set.sum; count = set.count; phase = phase_said verdict; change = change_of verdict }
 
 abbrev pub sheet_result : Option ℕ → Station → Station → Outcome → SheetResult
-sheet_result none s next outcome = record { station = next; answer = SheetAnswer.Accepted outcome }
-sheet_result (some number) s next outcome = record { station = s; answer = SheetAnswer.Refused (refusal_of number) }
+sheet_result None s next outcome = record { station = next; answer = Ok outcome }
+sheet_result (Some number) s next outcome = record { station = s; answer = Err (refusal_of number) }
 
 -- numbers 0 and 2 to 7
 unfoldable pub sheet_of : Station → ℕ → ℕ → List ℤ → SheetResult
@@ -93,8 +90,8 @@ abbrev pub repair_station : Station → ℕ → Station
 repair_station s day = record { row = s.row; day = day; lines = map repaired_line s.lines }
 
 abbrev pub repair_result : Option ℕ → Station → Station → RepairResult
-repair_result none s next = record { station = next; answer = RepairAnswer.Repaired }
-repair_result (some number) s next = record { station = s; answer = RepairAnswer.Refused (refusal_of number) }
+repair_result None s next = record { station = next; answer = Ok tt }
+repair_result (Some number) s next = record { station = s; answer = Err (refusal_of number) }
 
 -- numbers 0 and 2
 unfoldable pub repair_of : Station → ℕ → RepairResult
@@ -108,8 +105,8 @@ abbrev pub market_station : Station → ℕ → Station
 market_station s day = record { row = s.row; day = day; lines = s.lines }
 
 abbrev pub market_result : Option ℕ → Station → Station → Certificate → MarketResult
-market_result none s next certificate = record { station = next; answer = MarketAnswer.Certified certificate }
-market_result (some number) s next certificate = record { station = s; answer = MarketAnswer.Refused (refusal_of number) }
+market_result None s next certificate = record { station = next; answer = Ok certificate }
+market_result (Some number) s next certificate = record { station = s; answer = Err (refusal_of number) }
 
 -- numbers 0, 2, 3, 8, 23, 24, 9 to 12, 25, 26, 13 and 14
 unfoldable pub market_of : Station → ℕ → ℕ → Scan → Asked → Basis → MarketResult

@@ -5,12 +5,12 @@ use mathlib.Core.List.{List, [], ◌∷◌}
 use Prim.Native.Nat.{ℕ, zero, suc, ◌*◌, ◌%◌, ◌≤◌, ◌<◌}
 use native.Mathlib.Omega.{arith}
 use lib.Dec.{T, eqb, leb, leb→le}
-use lib.IntN.{ℤ, nat_abs}
+use lib.IntN.{ℤ, pos, negsuc, nat_abs}
+use Rattle.std.proofs.lemmas.Int.{ints}
 use lib.ListN.{take, get_or}
 use lib.Seq.{get_or-take}
-use Rattle.whole.specs.Parts.{Within}
+use Rattle.whole.specs.Bounds.{Within}
 use Rattle.whole.specs.Lists.{all}
-use Rattle.whole.proofs.PartLaws.{size_parts}
 use Rattle.whole.proofs.Tests.{and_l, and_r, of_true, to_true}
 use Rattle.station_rules.specs.Rows.{samples, line_count, row_exists}
 use Rattle.station_rules.specs.Lines.{sound_intercept}
@@ -32,7 +32,8 @@ pub day_read : {b : Bool} {d e : ℕ} (day : ℕ) → b ≡ (day_check d day).ap
 day_read day h e = h ∙ ap (λ (x : ℕ). (day_check x day).applies) e
 
 pub size_within : (m : ℕ) (z : ℤ) → nat_abs z ≤ m → Within m m z
-size_within m z h = record { over = omega (arith, size_parts z); under = omega (arith, size_parts z) }
+size_within m (pos n) h = record { over = omega (arith, ints); under = omega (arith, ints) }
+size_within m (negsuc n) h = record { over = omega (arith, ints); under = omega (arith, ints) }
 
 -- a sound set, on a row of at most six samples
 set_fits : (n : ℕ) (p : PastSet) → n ≤ 6 → T (sound_set n p) → SetsOf 1 p.sum p.count

@@ -1,24 +1,25 @@
 -- Soundness by its tests in the order in which they are made, and the past set by set.
-use mathlib.Core.Path.{◌≡◌, refl, sym, ◌∙◌, ap}
+use mathlib.Core.Path.{◌≡◌, refl, sym, ◌∙◌, ap, subst}
 use mathlib.Core.Bool.{Bool, true, false, ◌&&◌}
-use mathlib.Core.List.{List, ◌∷◌}
-use Prim.Native.Nat.{ℕ, zero, suc, ◌+◌, ◌*◌, ◌%◌, ◌≤◌, ◌<◌}
+use mathlib.Core.List.{List, [], ◌∷◌, map}
+use Prim.Native.Nat.{ℕ, zero, suc, ◌+◌, ◌-◌, ◌*◌, ◌/◌, ◌≤◌, ◌<◌}
 use native.Mathlib.Numerals.{add-one}
 use native.Mathlib.Omega.{arith}
-use lib.Dec.{leb, eqb, leb→le}
-use lib.IntN.{ℤ, nat_abs}
+use lib.Dec.{leb, leb→le}
+use lib.IntN.{ℤ, pos}
+use borrow.Rule.Slice.PartMut.{mid_of}
+use Rattle.std.specs.Simd.{first_chunks}
+use Rattle.whole.proofs.Spelled.{elements, spelled}
 use lib.ListN.{length, take, drop, get_or, drop_of_length-le}
 use lib.Seq.{drop-cons, get_or-take, length-take-le}
-use borrow.Author.Tests.{le-ltb, le-leb, lt-leb, eq-eqb, ne_eqb, eqb-true}
+use borrow.Author.Tests.{le-ltb, le-leb, lt-leb, eqb-true}
 use Rattle.whole.specs.Lists.{all}
 use Rattle.whole.proofs.Tests.{and_r, of_true}
 use Rattle.station_rules.specs.Rows.{row_exists, samples, line_count}
 use Rattle.station_rules.specs.Soundness.{days_fall, sound_set, sound_held, sound_line, sound}
 use Rattle.station_rules.specs.declared.PastSet.{PastSet}
-use Rattle.station_rules.specs.Held.{no_set, fresh_line}
-use Rattle.station_rules.specs.Places.{set_at, line_in, line_places, station_in}
-use Rattle.station_rules.proofs.InPlace.{line_there}
-use Rattle.station_rules.specs.declared.Line.{Line}
+use Rattle.station_rules.specs.Held.{no_set}
+use Rattle.station_rules.specs.Places.{set_at, line_in, station_in}
 use Rattle.station_rules.specs.Held.{Station}
 use Rattle.station_soundness.specs.Past.{sound_past}
 
@@ -64,50 +65,44 @@ set_there words held i h few = there i h ∙ sym (get_or-take held (line_in word
     there (suc (suc (suc zero))) h = refl
     there (suc (suc (suc (suc i)))) h = absurd (omega arith)
 
+-- the same, where the places are cut into sets
+pub set_cut : (words : List ℤ) (sets : List (List ℤ)) (held i : ℕ) → length words ≡ 15
+    → sets ≡ first_chunks 3 (length (mid_of 3 12 words) / 3) (mid_of 3 12 words) → i < held → held ≤ 4
+    → set_at (get_or (take held sets) i []) 0 ≡ get_or (take held (line_in words).past) i no_set
+unfolding elements
+set_cut words sets held i full cut h few =
+    ap (λ (set : List ℤ). set_at set 0) (get_or-take held sets i [] h ∙ ap (λ (s : List (List ℤ)). get_or s i []) cut)
+    ∙ subst (λ (w : List ℤ). set_at (get_or (first_chunks 3 (length (mid_of 3 12 w) / 3) (mid_of 3 12 w)) i []) 0 ≡ set_at w (3 + 3 * i)) (spelled (pos 0) words 15 full)
+    (there i (omega arith))
+    ∙ set_there words held i h few
+  where
+    there : (i : ℕ) → i < 4
+        → let w = elements (pos 0) words 15 0 in set_at (get_or (first_chunks 3 (length (mid_of 3 12 w) / 3) (mid_of 3 12 w)) i []) 0 ≡ set_at w (3 + 3 * i)
+    there zero h = refl
+    there (suc zero) h = refl
+    there (suc (suc zero)) h = refl
+    there (suc (suc (suc zero))) h = refl
+    there (suc (suc (suc (suc i)))) h = absurd (omega arith)
+
 pub held_count : (words : List ℤ) (held : ℕ) → held ≤ 4 → length (take held (line_in words).past) ≡ held
 unfolding line_in
 held_count words held few = length-take-le held (line_in words).past few
 
 -- ---- the lines from the first
 
-module _ (p : Line → Bool) (i : ℕ) (lines : List Line) where
-  pub lines_done : length lines ≤ i → true ≡ all p (drop i lines)
-  lines_done h = sym (ap (all p) (drop_of_length-le lines h))
+-- where the places are cut into lines
+pub lines_cut : (words : List ℤ) (parts : List (List ℤ)) → length words ≡ 47
+    → let rest = take (length words - 2) (drop 2 words) in parts ≡ first_chunks 15 (length rest / 15) rest → map line_in parts ≡ (station_in words).lines
+unfolding station_in elements
+lines_cut words parts full cut =
+    ap (map line_in) cut
+    ∙ subst (λ (w : List ℤ). let rest = take (length w - 2) (drop 2 w) in map line_in (first_chunks 15 (length rest / 15) rest) ≡ (station_in w).lines)
+    (spelled (pos 0) words 47 full) refl
 
-  module _ (h : i < length lines) (l : Line) (is : l ≡ get_or lines i fresh_line) where
-    line_decides : all p (drop i lines) ≡ p l && all p (drop (i + 1) lines)
-    line_decides = ap (all p) (drop-cons lines i fresh_line h ∙ (λ j. sym is j ∷ drop (sym (add-one i) j) lines))
-
-    pub lines_go_on : p l ≡ true → all p (drop (i + 1) lines) ≡ all p (drop i lines)
-    lines_go_on e = sym (line_decides ∙ ap (λ (b : Bool). b && all p (drop (i + 1) lines)) e)
-
-    pub lines_end : p l ≡ false → false ≡ all p (drop i lines)
-    lines_end e = sym (line_decides ∙ ap (λ (b : Bool). b && all p (drop (i + 1) lines)) e)
-
-pub line_there_of : (words : List ℤ) (count i : ℕ) → i < count → count ≤ 3
-    → line_in (line_places words i) ≡ get_or (take count (station_in words).lines) i fresh_line
-line_there_of words count i h few = line_there words i (omega arith) ∙ sym (get_or-take count (station_in words).lines i fresh_line h)
-
-pub line_count_lem : (words : List ℤ) (count : ℕ) → count ≤ 3 → length (take count (station_in words).lines) ≡ count
-unfolding station_in
-line_count_lem words count few = length-take-le count (station_in words).lines few
-
--- ---- a past set
-
-module _ (n : ℕ) (p : PastSet) where
-  pub odd_set : (p.count % 2 ≡ 0 → ⊥) → false ≡ sound_set n p
-  odd_set h = simp (ne_eqb (p.count % 2) 0 h)
-
-  module _ (even : p.count % 2 ≡ 0) where
-    pub small_set : p.count < 2 → false ≡ sound_set n p
-    small_set h = simp (eq-eqb (p.count % 2) 0 even, lt-leb 2 p.count h)
-
-    module _ (two : 2 ≤ p.count) where
-      pub large_set : 2 * n < p.count → false ≡ sound_set n p
-      large_set h = simp (eq-eqb (p.count % 2) 0 even, le-leb 2 p.count two, lt-leb p.count (2 * n) h)
-
-      pub right_set : p.count ≤ 2 * n → leb (nat_abs p.sum) (11000 * p.count) ≡ sound_set n p
-      right_set h = simp (eq-eqb (p.count % 2) 0 even, le-leb 2 p.count two, le-leb p.count (2 * n) h)
+pub all_map : {A B : Type 0} (p : B → Bool) (f : A → B) (count : ℕ) (l : List A) → all (λ x. p (f x)) (take count l) ≡ all p (take count (map f l))
+all_map p f zero l = refl
+all_map p f (suc count) [] = refl
+all_map p f (suc count) (x ∷ l) = ap (λ (b : Bool). p (f x) && b) (all_map p f count l)
 
 -- ---- a line
 
@@ -115,36 +110,12 @@ module _ (n : ℕ) (p : PastSet) where
 phaseless : (phase held : ℕ) → 4 ≤ phase → false ≡ sound_held phase held
 phaseless phase held h = simp (le-ltb phase 4 h)
 
--- a line that isn't open holds none
-pub closed_held : (phase held : ℕ) → (phase ≡ 1 → ⊥) → (leb phase 3 && eqb held 0) ≡ sound_held phase held
-closed_held zero held h = refl
-closed_held (suc zero) held h = absurd (h refl)
-closed_held (suc (suc zero)) held h = refl
-closed_held (suc (suc (suc zero))) held h = refl
-closed_held (suc (suc (suc (suc n)))) held h =
-    ap (λ (b : Bool). b && eqb held 0) (lt-leb (suc (suc (suc (suc n)))) 3 (omega arith)) ∙ phaseless (suc (suc (suc (suc n)))) held (omega arith)
-
 pub held_most : (phase held : ℕ) → sound_held phase held ≡ true → held ≤ 4
 held_most zero held e = omega (arith, eqb-true held 0 e)
 held_most (suc zero) held e = leb→le held 4 (and_r (leb 1 held) (leb held 4) (of_true (leb 1 held && leb held 4) e))
 held_most (suc (suc zero)) held e = omega (arith, eqb-true held 0 e)
 held_most (suc (suc (suc zero))) held e = omega (arith, eqb-true held 0 e)
 held_most (suc (suc (suc (suc n)))) held e = absurd (of_true false (phaseless (suc (suc (suc (suc n)))) held (omega arith) ∙ e))
-
-module _ (n day : ℕ) (l : Line) where
-  pub wild_line : leb (nat_abs l.intercept) 1000 ≡ false → false ≡ sound_line n day l
-  unfolding sound_line
-  wild_line h = simp h
-
-  module _ (small : leb (nat_abs l.intercept) 1000 ≡ true) where
-    pub crowded_line : sound_held l.phase l.held ≡ false → false ≡ sound_line n day l
-    unfolding sound_line
-    crowded_line h = simp (small, h)
-
-    pub right_line : sound_held l.phase l.held ≡ true
-        → days_fall day (take l.held l.past) && all (sound_set n) (take l.held l.past) ≡ sound_line n day l
-    unfolding sound_line
-    right_line h = simp (small, h)
 
 -- ---- a station
 

@@ -11,36 +11,30 @@ ghost use Rattle.station_rules.specs.Places.{line_in, station_in};
 ghost use Rattle.station_soundness.specs.Past.{sound_past};
 
 use station_rules::{
-    FIRST_LINE, FIRST_SET, HELD_PLACE, INTERCEPT_BOUND, INTERCEPT_PLACE, LAST_DAY, LINE_PLACES,
-    OPEN_LINE, PHASE_PLACE, PastSet, SHUT_LINE, STATION_PLACES, SUM_BOUND,
+    ADJUSTED_LINE, FIRST_LINE, FIRST_SET, HELD_PLACE, INTERCEPT_BOUND, INTERCEPT_PLACE, LAST_DAY,
+    LINE_PLACES, NEW_LINE, OPEN_LINE, PHASE_PLACE, PastSet, SHUT_LINE, STATION_PLACES, SUM_BOUND,
 };
-use whole::{Int, flags, held, places};
+use whole::held::{SET_PLACES, SETS};
 
 // N is even from 2 to twice the samples n, and |S| is at most 11000 times N.
 fn sound_set(n: u32, p: PastSet) -> bool
     requires { n ≤ 6 }
     ensures { result ≡ sound_set n p }
 {
-    if p.count % 2 != 0 {
-        return false;
-    }
-    if p.count < 2 {
-        return false;
-    }
-    if 2 * n < p.count {
-        return false;
-    }
-    whole::size_at_most(Int { z: p.sum }, SUM_BOUND * p.count)
+    p.count % 2 == 0
+        && (2..=2 * n).contains(&p.count)
+        && p.sum.unsigned_abs() <= SUM_BOUND * p.count
 }
 
-// An open line has one to four past sets and any other none; a phase that there isn't has no right number of them.
+// An open line has one to four past sets and any other none; a phase that there isn't has no right number of them. The phase is a code, as the places hold it for C.
 fn sound_held(phase: u32, held: u32) -> bool
     ensures { result ≡ sound_held phase held }
 {
-    if phase == OPEN_LINE {
-        return flags::both(1 <= held, held <= held::SETS);
+    match phase {
+        OPEN_LINE => (1..=SETS).contains(&held),
+        NEW_LINE | ADJUSTED_LINE | SHUT_LINE => held == 0,
+        _ => false,
     }
-    flags::both(phase <= SHUT_LINE, held == 0)
 }
 
 // A set whose day does not pass that of the set before it, and that is sound.
@@ -48,61 +42,42 @@ fn next_set(n: u32, last: u32, p: PastSet) -> bool
     requires { n ≤ 6 }
     ensures { result ≡ (leb p.day last && sound_set n p) }
 {
-    if last < p.day {
-        return false;
-    }
-    sound_set(n, p)
+    p.day <= last && sound_set(n, p)
 }
 
 // The held sets of the line in these places, from newest to oldest.
-fn sound_past(n: u32, day: u32, held: usize, part: &[i32]) -> bool
-    requires n_bound { (n ≤ 6) × (held ≤ 4) }
-    requires part_len { length part.now ≡ 15 }
+fn sound_past(n: u32, day: u32, held: usize, part: &[i32; LINE_PLACES]) -> bool
+    requires { (n ≤ 6) × (held ≤ 4) }
     ensures { result ≡ sound_past n day (take held (line_in part.now).past) }
 {
+    let (sets, _) = part[FIRST_SET..].as_chunks::<SET_PLACES>();
     let mut last = day;
-    let mut i: usize = 0;
-    while i < held {
-        let p = line::set_at(part, FIRST_SET + held::SET_PLACES * i);
+    for set in &sets[..held] {
+        let p = line::set_at(set, 0);
         if !next_set(n, last, p) {
             return false;
         }
         last = p.day;
-        i += 1;
     }
     true
 }
 
-fn sound_line(n: u32, day: u32, part: &[i32]) -> bool
-    requires n_bound { n ≤ 6 }
-    requires part_len { length part.now ≡ 15 }
+#[tactic(auto, using(whole::proofs::PlaceLaws::natural_read), unfolding(station_rules::specs::Soundness::sound_line, station_rules::specs::Places::line_in))]
+fn sound_line(n: u32, day: u32, part: &[i32; LINE_PLACES]) -> bool
+    requires { n ≤ 6 }
     ensures { result ≡ sound_line n day (line_in part.now) }
 {
-    if !whole::size_at_most(places::number_at(part, INTERCEPT_PLACE), INTERCEPT_BOUND) {
-        return false;
-    }
-    let held = places::natural_at(part, HELD_PLACE);
-    if !sound_held(places::natural_at(part, PHASE_PLACE), held) {
-        return false;
-    }
-    sound_past(n, day, held as usize, part)
+    let held = part[HELD_PLACE].cast_unsigned();
+    part[INTERCEPT_PLACE].unsigned_abs() <= INTERCEPT_BOUND
+        && sound_held(part[PHASE_PLACE].cast_unsigned(), held)
+        && sound_past(n, day, held as usize, part)
 }
 
-// The first `count` lines.
-fn sound_lines(state: &[i32], n: u32, day: u32, count: usize) -> bool
-    requires n_bound { (n ≤ 6) × (count ≤ 3) }
-    requires state_len { length state.now ≡ 47 }
-    ensures { result ≡ all (sound_line n day) (take count (station_in state.now).lines) }
+fn sound_lines(n: u32, day: u32, lines: &[[i32; LINE_PLACES]]) -> bool
+    requires { n ≤ 6 }
+    ensures { result ≡ all (λ part. sound_line n day (line_in part)) lines.now }
 {
-    let mut i: usize = 0;
-    while i < count {
-        let start = FIRST_LINE + LINE_PLACES * i;
-        if !sound_line(n, day, &state[start..start + LINE_PLACES]) {
-            return false;
-        }
-        i += 1;
-    }
-    true
+    lines.iter().all(|part| sound_line(n, day, part))
 }
 
 // Number 0: the places are 47, the row exists, the day is 0..99999, and the row's lines are sound.
@@ -120,11 +95,11 @@ pub fn is_sound(state: &[i32]) -> bool
     if LAST_DAY < day {
         return false;
     }
+    let (lines, _) = state[FIRST_LINE..].as_chunks::<LINE_PLACES>();
     sound_lines(
-        state,
         row_table::sample_count(row),
         day,
-        row_table::line_count(row),
+        &lines[..row_table::line_count(row)],
     )
 }
 
@@ -132,5 +107,5 @@ pub fn is_sound(state: &[i32]) -> bool
 pub fn is_bad_day(last: u32, day: u32) -> bool
     ensures { result ≡ (day_check last day).applies }
 {
-    flags::either(day < last, LAST_DAY < day)
+    day < last || LAST_DAY < day
 }

@@ -1,35 +1,77 @@
 -- The set under way, charted.
 use mathlib.Core.Path.{◌≡◌, sym, ap, ◌∙◌}
 use mathlib.Core.List.{List, [], ◌∷◌, append-nil}
-use Prim.Native.Nat.{ℕ, ◌*◌}
+use Prim.Native.Nat.{ℕ, ◌*◌, ◌+◌}
 use lib.IntN.{ℤ}
 use lib.ListN.{length, take}
 use Rattle.chart_rules.specs.Calls.{result_of, bytes_of}
 use Rattle.chart_rules.specs.Places.{chart_at}
 use Rattle.chart_rules.specs.InPlace.{left_by}
-use Rattle.chart_rules.specs.Gathering.{finished}
-use Rattle.text_gather.specs.Progress.{seen}
+use Rattle.chart_rules.specs.Gathering.{Gathered, joined, finished, closed, kept}
+use Rattle.chart_rules.specs.Fine.{FineLine}
+use Rattle.chart_rules.specs.declared.ValueLine.{ValueLine}
+use Rattle.chart_rules.proofs.Gathering.{closed_start, closed_next, kept_start, kept_next}
+use Rattle.chart_rules.proofs.Rulings.{fine_next}
+use Rattle.decimal.specs.Put.{Put}
+use Rattle.decimal.proofs.Put.{put_is, put_none}
+use native.Mathlib.Omega.{arith}
+use Rattle.text_gather.specs.declared.Progress.{Progress}
+use Rattle.text_gather.specs.Progress.{seen, Grown, Flushed, Stepped}
 use Rattle.chart_rules.specs.Output.{chart_all, chart_after}
-use Rattle.chart_rules.specs.declared.Values.{Values}
-use Rattle.chart_rules.specs.declared.ChartAnswer.{ChartAnswer}
-use Rattle.chart_rules.specs.declared.ChartAnswer.TheVariants.{Charted}
+use Rattle.std.specs.Prelude.{Result, Ok}
+use Rattle.chart_rules.specs.declared.Refusal.{Refusal}
+use Rattle.chart_rules.specs.declared.Charted.{Charted}
 use Rattle.text_gather.specs.declared.TextSet.{TextSet}
 use Rattle.chart_rules.proofs.InPlace.{left_holds}
-use Rattle.chart_rules.proofs.Charted.{charted_length}
+use Rattle.chart_rules.proofs.Results.{charted_length}
 
-module _ (words : List ℤ) (s : TextSet) (fin : finished (seen s) ≡ seen s ∷ []) (a : ChartAnswer) (is : a ≡ (result_of (chart_at words) s.week (take (2 * s.count) s.numbers) 40).answer) where
+module _ (words : List ℤ) (s : TextSet) (fin : finished (seen s) ≡ seen s ∷ []) (a : Result Charted Refusal) (is : a ≡ (result_of (chart_at words) s.week (take (2 * s.count) s.numbers) 40).answer) where
   pub flush_chart : (left : List ℤ) → left ≡ left_by a words s.week (take (2 * s.count) s.numbers) → chart_at left ≡ chart_after (chart_at words) (finished (seen s))
   unfolding chart_after seen
   flush_chart left e =
-      ap chart_at (e ∙ ap (λ (x : ChartAnswer). left_by x words s.week (take (2 * s.count) s.numbers)) is)
+      ap chart_at (e ∙ ap (λ (x : Result Charted Refusal). left_by x words s.week (take (2 * s.count) s.numbers)) is)
       ∙ left_holds words s.week (take (2 * s.count) s.numbers) 40 ∙ sym (ap (chart_after (chart_at words)) fin)
 
   pub flush_bytes : bytes_of a ≡ chart_all (chart_at words) (finished (seen s))
   unfolding chart_all seen
   flush_bytes = ap bytes_of is ∙ sym (append-nil _) ∙ sym (ap (chart_all (chart_at words)) fin)
 
-  pub flush_length : (v : Values) (k : ℕ) → a ≡ Charted v k → k ≡ length (bytes_of a)
+  pub flush_length : (charted : Charted) → a ≡ Ok charted → charted.length ≡ length (bytes_of a)
   unfolding bytes_of
-  flush_length v k e =
-      charted_length (chart_at words) s.week (take (2 * s.count) s.numbers) 40 v k (sym is ∙ e)
-      ∙ sym (ap (λ (x : ChartAnswer). length (bytes_of x)) e)
+  flush_length charted e =
+      charted_length (chart_at words) s.week (take (2 * s.count) s.numbers) 40 charted (sym is ∙ e)
+      ∙ sym (ap (λ (x : Result Charted Refusal). length (bytes_of x)) e)
+
+-- the set under way closed where the line starts one: what then joins the line
+pub record Ready (p : Progress) (v : ValueLine) (old : List ℕ) (q : Progress) (new : List ℕ) : Type 0 where
+  pub after : chart_at q.chart ≡ chart_after (chart_at p.chart) (closed (seen p.set) v)
+  pub set : seen q.set ≡ kept (seen p.set) v
+  pub count : q.set.count + 1 ≡ v.sample
+  pub put : Put old p.end (chart_all (chart_at p.chart) (closed (seen p.set) v)) new q.end
+
+pub ready_start : (p : Progress) (v : ValueLine) (old : List ℕ) (q : Progress) (new : List ℕ) → v.sample ≡ 1 → Flushed p q
+    → Put old p.end (chart_all (chart_at p.chart) (finished (seen p.set))) new q.end → Ready p v old q new
+ready_start p v old q new one f put =
+    let shut = sym (closed_start (seen p.set) v one) in
+    record {
+      after = f.after ∙ ap (chart_after (chart_at p.chart)) shut;
+      set = f.set.is ∙ sym (kept_start (seen p.set) v one);
+      count = omega (arith, f.set.count, one);
+      put = put_is put (ap (chart_all (chart_at p.chart)) shut);
+    }
+
+pub ready_next : (p : Progress) (v : ValueLine) (old : List ℕ) → (v.sample ≡ 1 → ⊥) → FineLine p.set.week p.set.count v → Ready p v old p old
+unfolding chart_all chart_after
+ready_next p v old other fine =
+    let shut = sym (closed_next (seen p.set) v other) in
+    record {
+      after = ap (chart_after (chart_at p.chart)) shut;
+      set = sym (kept_next (seen p.set) v other);
+      count = omega (arith, (fine_next _ _ v fine other).1);
+      put = put_is (put_none old p.end) (ap (chart_all (chart_at p.chart)) shut);
+    }
+
+pub stepped : (p : Progress) (v : ValueLine) (old : List ℕ) (q : Progress) (new : List ℕ) (s : TextSet) → Ready p v old q new → Grown q.set v s
+    → Stepped p v (record { chart = q.chart; set = s; end = q.end })
+stepped p v old q new s r g =
+    record { after = r.after; set = g.is ∙ ap (λ (x : Gathered). joined x v) r.set; count = omega (arith, g.count, r.count); week = g.week }

@@ -2,57 +2,53 @@
 
 #![tactic(auto)]
 
-ghost use Rattle.std.specs.Prelude.{◌≡◌, cond, ◌+◌, ◌<◌, ◌≤◌, eqb, length};
+ghost use Rattle.std.specs.Prelude.{◌≡◌, ◌≤◌, length};
 ghost use Rattle.chart_rules.specs.Judging.{first_ruling, value_lines, lines_checks, verdict, starts, judged};
 
-use chart_rules::{
-    FIRST_LINE, LineRead, MOST_TEXT, NAMES_LENGTH, Ruling, TextRefusal, TextVerdict,
-};
+use chart_rules::{FIRST_LINE, MOST_TEXT, RefusedText, TextRefusal};
 
-// One set more where a set starts.
-fn counted(sets: usize, sample: u32) -> usize
-    requires { sets < 1000000 }
-    ensures { result ≡ sets + cond (eqb sample 1) 1 0 }
-{
-    if sample == 1 { sets + 1 } else { sets }
-}
-
-// The value lines, behind the names line, each judged after the one before.
-fn judge_lines(text: &[u8]) -> TextVerdict
+// The value lines, behind the names line, each judged after the one before: how many sets they have.
+#[tactic(auto, using(chart_rules::proofs::Judging::judge_steps, chart_rules::proofs::TextLines::lines_few))]
+fn judge_lines(text: &[u8]) -> Result<usize, RefusedText>
     requires { length text.now ≤ 65536 }
     ensures { result ≡ verdict (first_ruling (lines_checks 0 0 2 (value_lines text.now))) (starts (value_lines text.now)) }
 {
-    let mut at: usize = NAMES_LENGTH;
     let mut line: u32 = FIRST_LINE;
     let mut week: u32 = 0;
     let mut sample: u32 = 0;
     let mut sets: usize = 0;
-    while at < text.len() {
-        let LineRead::Values(v, next) = text_lines::read_line(text, at) else {
-            return TextVerdict::Refused(TextRefusal::BadLine, line);
+    for read in text_lines::value_lines(text) {
+        let Some(v) = read else {
+            return Err(RefusedText {
+                refusal: TextRefusal::BadLine,
+                line,
+            });
         };
-        if let Ruling::Refused(refusal, place) = text_ruling::rule(week, sample, line, v) {
-            return TextVerdict::Refused(refusal, place);
-        }
-        sets = counted(sets, v.sample);
+        text_ruling::rule(week, sample, line, v)?;
+        sets += usize::from(v.sample == 1);
         week = v.week;
         sample = v.sample;
-        at = next;
         line += 1;
     }
-    TextVerdict::Good(sets)
+    Ok(sets)
 }
 
-// The verdict on a chart text.
+// A good text's number of sets, or the first refusal that applies.
 #[tactic(auto, unfolding(chart_rules::specs::Judging::judged))]
-pub fn judge(text: &[u8]) -> TextVerdict
+pub fn judge(text: &[u8]) -> Result<usize, RefusedText>
     ensures { result ≡ judged text.now }
 {
     if MOST_TEXT < text.len() {
-        return TextVerdict::Refused(TextRefusal::TooLong, 0);
+        return Err(RefusedText {
+            refusal: TextRefusal::TooLong,
+            line: 0,
+        });
     }
-    if text_lines::has_names(text) {
-        return judge_lines(text);
+    if !text_lines::has_names(text) {
+        return Err(RefusedText {
+            refusal: TextRefusal::BadNames,
+            line: 1,
+        });
     }
-    TextVerdict::Refused(TextRefusal::BadNames, 1)
+    judge_lines(text)
 }

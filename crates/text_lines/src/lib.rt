@@ -4,72 +4,85 @@
 
 ghost use Rattle.std.specs.Prelude.{◌≡◌};
 ghost use Rattle.chart_rules.specs.TextLines.{field as field_of, line_at, names_line, starts_with};
+ghost use Rattle.chart_rules.specs.Judging.{value_lines as lines_of};
+ghost use Rattle.text_lines.specs.Lines.{lines_left};
 
-use chart_rules::{LineRead, Number, ValueLine};
+use chart_rules::{NAMES_LENGTH, ValueLine};
 
 // The number at position at with the byte end behind it: the position moves past that byte.
-pub fn field(text: &[u8], end: u8, at: usize) -> Number
+#[tactic(auto, using(chart_rules::proofs::Fields::field_steps))]
+pub fn field(text: &[u8], end: u8, at: usize) -> Option<(u32, usize)>
     ensures { result ≡ field_of text.now end at }
 {
-    let Number::Value(n, i) = text_numbers::number_at(text, at) else {
-        return Number::Bad;
-    };
-    if i < text.len() {
-        if text[i] == end {
-            return Number::Value(n, i + 1);
-        }
+    let (n, i) = text_numbers::number_at(text, at)?;
+    if *text.get(i)? == end {
+        Some((n, i + 1))
+    } else {
+        None
     }
-    Number::Bad
 }
 
 // The value line at position at.
-pub fn read_line(text: &[u8], at: usize) -> LineRead
+#[tactic(auto, unfolding(chart_rules::specs::TextLines::line_at, chart_rules::specs::TextLines::then))]
+pub fn read_line(text: &[u8], at: usize) -> Option<(ValueLine, usize)>
     ensures { result ≡ line_at text.now at }
 {
-    let Number::Value(week, i) = field(text, b' ', at) else {
-        return LineRead::Bad;
+    let (week, i) = field(text, b' ', at)?;
+    let (sample, j) = field(text, b' ', i)?;
+    let (original, k) = field(text, b' ', j)?;
+    let (monitor, next) = field(text, b'\n', k)?;
+    let line = ValueLine {
+        week,
+        sample,
+        original,
+        monitor,
     };
-    let Number::Value(sample, j) = field(text, b' ', i) else {
-        return LineRead::Bad;
-    };
-    let Number::Value(original, k) = field(text, b' ', j) else {
-        return LineRead::Bad;
-    };
-    let Number::Value(monitor, next) = field(text, b'\n', k) else {
-        return LineRead::Bad;
-    };
-    LineRead::Values(
-        ValueLine {
-            week,
-            sample,
-            original,
-            monitor,
-        },
-        next,
-    )
-}
-
-// Whether text begins with all of head.
-fn starts_with(text: &[u8], head: &[u8]) -> bool
-    ensures { result ≡ starts_with head.now text.now }
-{
-    let mut i = 0;
-    while i < head.len() {
-        if text.len() <= i {
-            return false;
-        }
-        if text[i] != head[i] {
-            return false;
-        }
-        i += 1;
-    }
-    true
+    Some((line, next))
 }
 
 // Whether the text's first line is the names line, with its line feed.
 pub fn has_names(text: &[u8]) -> bool
     ensures { result ≡ starts_with names_line text.now }
 {
-    let names = b"week sample original monitor\n";
-    starts_with(text, names)
+    text.starts_with(b"week sample original monitor\n")
+}
+
+// The value lines of a text from a position on, one after another. One that can't be read comes as None, and is the last.
+#[derive(Drop)]
+pub struct ValueLines<'a> {
+    text: &'a [u8],
+    at: usize,
+}
+
+impl<'a> Iterator for ValueLines<'a> {
+    ghost use Rattle.std.specs.Iterator.{YieldsFirst, item_count};
+
+    type Item = Option<ValueLine>;
+
+    ghost next_gives = { YieldsFirst lines_left };
+
+    ghost remaining = { item_count lines_left };
+
+    #[tactic(auto, using(chart_rules::proofs::TextLines::lines_steps))]
+    fn next(&mut self) -> Option<Option<ValueLine>> {
+        if self.text.len() <= self.at {
+            return None;
+        }
+        let Some((line, next)) = read_line(self.text, self.at) else {
+            self.at = self.text.len();
+            return Some(None);
+        };
+        self.at = next;
+        Some(Some(line))
+    }
+}
+
+// The value lines of a text, behind its names line.
+pub fn value_lines(text: &[u8]) -> ValueLines<'_>
+    ensures { lines_left result ≡ lines_of text.now }
+{
+    ValueLines {
+        text,
+        at: NAMES_LENGTH,
+    }
 }

@@ -6,15 +6,14 @@ ghost use Rattle.std.specs.Prelude.{◌≡◌, ◌≤◌, length};
 ghost use Rattle.decimal.specs.Put.{Put};
 ghost use Rattle.chart_rules.specs.Printing.{refusal_bytes, printed_of};
 
-use chart_rules::{LINE_ROOM, TextAnswer};
+use chart_rules::LINE_ROOM;
 
 // `refused`, the number and the text line, from the buffer's start on: the length.
 fn put_refusal(out: &mut [u8], number: u32, line: u32) -> usize
     requires { 40 ≤ length out.old }
     ensures { (Put out.old 0 (refusal_bytes number line) out.new result) × (result ≤ 40) }
 {
-    let word = b"refused";
-    let a = decimal::put_bytes(out, 0, word);
+    let a = decimal::put_bytes(out, 0, b"refused");
     let b = decimal::put_field(out, a, number);
     let c = decimal::put_field(out, b, line);
     decimal::put_byte(out, c, b'\n')
@@ -23,16 +22,17 @@ fn put_refusal(out: &mut [u8], number: u32, line: u32) -> usize
 // What the program prints, from the buffer's start on: the text's output, or the line of its refusal. It gives the length.
 // A buffer of fewer than 40 bytes gets nothing.
 pub fn print_text(text: &[u8], out: &mut [u8]) -> usize
-    ensures { printed_of text.now out.old ≡ record { length = result; buffer = out.new } }
+    ensures printed { printed_of text.now out.old ≡ record { length = result; buffer = out.new } }
+    ensures fits { result ≤ length out.old }
 {
     if out.len() < LINE_ROOM {
         return 0;
     }
     match text::chart_text(text, out) {
-        TextAnswer::Written(length) => length,
-        TextAnswer::Refused(refusal, line) => {
-            let number = text_ruling::number_of(refusal);
-            put_refusal(out, number, line)
+        Ok(length) => length,
+        Err(refused) => {
+            let number = u32::from(refused.refusal);
+            put_refusal(out, number, refused.line)
         }
     }
 }

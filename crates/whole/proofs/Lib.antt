@@ -1,4 +1,5 @@
 pub mod Tests
+pub mod Parts
 pub mod PartLaws
 pub mod Linear
 pub mod Fold
@@ -6,5 +7,6 @@ pub mod ListLaws
 pub mod Read
 pub mod Elements
 pub mod Spelled
-pub mod Twelve
 pub mod RoundLaws
+pub mod BoundLaws
+pub mod PlaceLaws

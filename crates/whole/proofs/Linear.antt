@@ -7,7 +7,7 @@ use mathlib.Core.Path.{◌≡◌, ap, ◌∙◌}
 use Prim.Native.Nat.{ℕ, ◌+◌, ◌*◌, ◌≤◌}
 use native.Mathlib.Omega.{arith}
 use lib.IntN.{ℤ, pos, neg_ℤ, ◌+ℤ◌, ◌-ℤ◌, ◌*ℤ◌, *ℤ_comm, +ℤ_comm, +ℤ_assoc}
-use Rattle.whole.specs.Parts.{up, down}
+use Rattle.whole.proofs.Parts.{up, down}
 use Rattle.whole.proofs.PartLaws.{sum, diff, times, either, same, mul_up, mul_down, neg_up, neg_down}
 
 infixl 6 ◌⊕◌ ◌⊖◌

@@ -9,7 +9,7 @@ use lib.IntN.{ℤ, pos, negsuc, ◌-ℤ◌}
 use lib.ListN.{length, get_or}
 use lib.Signed.{le_z}
 use borrow.Author.Tests.{leb-true, leb-false}
-use Rattle.whole.specs.Parts.{up, down, Within}
+use Rattle.whole.proofs.Parts.{up, down, Within}
 use Rattle.whole.specs.Lists.{differ, any, all, total, larger_of, smaller_of, largest, smallest}
 use Rattle.whole.proofs.PartLaws.{sum, diff, either}
 use Rattle.whole.proofs.Fold.{fold}

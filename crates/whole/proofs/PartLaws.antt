@@ -8,7 +8,7 @@ use lib.Dec.{T, ltb, leb→le, le→leb}
 use lib.IntN.{ℤ, pos, negsuc, neg_ℤ, nat_abs, sub_ℕ, ◌+ℤ◌, ◌-ℤ◌, ◌*ℤ◌}
 use lib.Signed.{◌≤ℤ◌, ◌<ℤ◌, lt_z, non_neg}
 use borrow.Author.Tests.{ltb-true, ltb-false, lt-ltb, le-ltb}
-use Rattle.whole.specs.Parts.{up, down, Sum, Diff, Times, Minus, Natural}
+use Rattle.whole.proofs.Parts.{up, down, Sum, Diff, Times, Minus, Natural}
 use Rattle.whole.proofs.Tests.{to_true}
 
 pub either : (z : ℤ) → min (up z) (down z) ≡ 0

@@ -7,7 +7,7 @@ use mir.Syntax.{w32}
 use mir.Val.{SFits, to_z, of_z}
 use mir.ValLaws.{to_z-of_z}
 use lib.Dec.{T, leb, ltb, leb→le, ltb→lt}
-use Rattle.whole.specs.Parts.{up, down, Within}
+use Rattle.whole.proofs.Parts.{up, down, Within}
 
 abbrev pub rd : ℤ → ℤ
 rd z = to_z w32 (of_z w32 z)

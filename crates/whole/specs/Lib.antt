@@ -1,6 +1,5 @@
-pub mod Parts
+pub mod Bounds
 pub mod Places
 pub mod Lists
 pub mod Rounding
 pub mod Says
-pub mod Three

@@ -1,22 +1,13 @@
 -- Tests over a list, checks in order and the first that applies, sides of zero, and the sum, the largest and the smallest of a list of whole numbers.
-use Rattle.std.specs.Prelude.{Bool, true, false, not, ◌&&◌, ◌||◌, cond, List, [], ◌∷◌, ℤ, pos, ◌+ℤ◌}
+use Rattle.std.specs.Prelude.{Bool, not, cond, List, [], ◌∷◌, ℤ, pos, ◌+ℤ◌}
 use Rattle.std.specs.Bool.{beq}
 use Rattle.std.specs.Int.Signed.{le_z, lt_z}
+-- some element passes a test; every element passes it
+pub use Rattle.std.specs.List.{list_any as any, list_all as all}
 
 -- the two tests give different answers
 abbrev pub differ : Bool → Bool → Bool
 differ a b = not (beq a b)
-
-module _ {A : Type 0} where
-  -- some element passes the test
-  abbrev pub any : (A → Bool) → List A → Bool
-  any p [] = false
-  any p (x ∷ xs) = p x || any p xs
-
-  -- every element passes the test
-  abbrev pub all : (A → Bool) → List A → Bool
-  all p [] = true
-  all p (x ∷ xs) = p x && all p xs
 
 -- a test, and what is answered where it applies
 pub record Check (A : Type 0) : Type 0 where

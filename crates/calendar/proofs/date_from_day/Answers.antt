@@ -1,10 +1,9 @@
+use native.Mathlib.Omega.{arith}
 use mathlib.Core.Path.{sym, ap, ◌∙◌}
-use Rattle.calendar_rules.specs.declared.DateAnswer.TheVariants.{Found}
-use Rattle.calendar_rules.proofs.Exact.{a_date, no_date}
+use Rattle.std.specs.Prelude.{Ok}
+use Rattle.calendar_rules.specs.Dates.{date_on}
+use Rattle.calendar_rules.proofs.Exact.{a_date}
 use Rattle.calendar.proofs.date_from_day.Goals as goal
 
-pub returns-then-day-le-LAST_DAY : goal.returns-then-day-le-LAST_DAY
-returns-then-day-le-LAST_DAY c = ap Found c.date_on.ensures ∙ sym (a_date c.args.day c.if-day-le-LAST_DAY.true)
-
 pub returns : goal.returns
-returns c = sym (no_date c.args.day c.if-day-le-LAST_DAY.false)
+returns c = ap Ok (c.date_on.ensures ∙ ap date_on c.in_ok-day.ensures.0) ∙ sym (a_date c.args.day (omega (arith, c.in_ok-day.ensures)))

@@ -8,8 +8,10 @@ use Rattle.decimal.proofs.Put.{put_whole}
 use Rattle.chart_rules.specs.Places.{chart_at}
 use Rattle.chart_rules.specs.Calls.{result_of, bytes_of, chart_set_of}
 use Rattle.chart_rules.specs.InPlace.{left_by, chart_set_in}
-use Rattle.chart_rules.specs.declared.ChartAnswer.{ChartAnswer}
-use Rattle.chart_rules.proofs.Charted.{line_fits}
+use Rattle.std.specs.Prelude.{Result}
+use Rattle.chart_rules.specs.declared.Refusal.{Refusal}
+use Rattle.chart_rules.specs.declared.Charted.{Charted}
+use Rattle.chart_rules.proofs.Results.{line_fits}
 use Rattle.chart.proofs.chart_set.Goals as goal
 
 pub returns : goal.returns
@@ -23,6 +25,6 @@ returns c =
     let all : length old - 0 ≡ length old = omega arith in
     let is = call.value ∙ ap (λ (room : ℕ). (result_of (chart_at words) s.week numbers room).answer) all in
     let short : length (bytes_of c.chart_set_at.result) ≤ length old = rw is (line_fits.inside (chart_at words) s.week numbers (length old)) in
-    let places = call.state_after ∙ ap (λ (a : ChartAnswer). left_by a words s.week numbers) is in
-    let bytes = (put_whole call.put short).0 ∙ ap (λ (a : ChartAnswer). overwritten (bytes_of a) old) is in
+    let places = call.state_after ∙ ap (λ (a : Result Charted Refusal). left_by a words s.week numbers) is in
+    let bytes = (put_whole call.put short).0 ∙ ap (λ (a : Result Charted Refusal). overwritten (bytes_of a) old) is in
     λ i. record { answer = is i; places = places i; buffer = bytes i }

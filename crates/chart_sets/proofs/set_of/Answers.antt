@@ -1,39 +1,53 @@
--- `chart_sets::set_of` meets its contract.
-use Rattle.whole.specs.Parts.{Within}
-use Rattle.whole.proofs.ListLaws.{largest_within, smallest_within}
-use mathlib.Core.Bool.{false}
-use mathlib.Core.List.{List}
-use Rattle.chart_rules.specs.Refusals.{bad_result}
-use Rattle.chart_sets.specs.Tallies.{Tallied}
-use Rattle.chart_sets.specs.declared.Tally.{Tally}
-use mathlib.Core.Path.{◌≡◌, sym, ap, ◌∙◌}
+use mathlib.Core.Path.{sym, ap, ◌∙◌}
 use native.Mathlib.Omega.{arith}
-use lib.IntN.{ℤ, nat_abs, ◌-ℤ◌}
-use Rattle.chart_rules.proofs.Bounds.{size_facts, each_inside}
-use Rattle.chart_rules.proofs.Sets.{diff_length, each_diff}
-use Rattle.chart_rules.specs.Sets.{differences, set_of}
+use Rattle.chart_rules.specs.Sets.{set_of}
+use Rattle.chart_rules.proofs.Bounds.{size_facts}
+use Rattle.chart_rules.proofs.Sets.{diff_length}
+use Rattle.chart_sets.proofs.Pairs.{first_good, difference_fits, difference_is, begun, pair_good, sum_fits, after, ended}
 use Rattle.chart_sets.proofs.set_of.Goals as goal
 
--- the largest and the smallest difference lie in -10000..10000
-bounds : (numbers : List ℤ) (t : Tally) → bad_result numbers ≡ false → Tallied numbers t → Within 10000 10000 t.high.z × Within 10000 10000 t.low.z
-bounds numbers t good tally =
-    let ds = differences numbers in
-    let h = each_diff numbers (each_inside numbers good) in
-    (rw tally.high (largest_within 10000 10000 ds h), rw tally.low (smallest_within 10000 10000 ds h))
+pub bounds-numbers-0 : goal.bounds-numbers-0
+bounds-numbers-0 c = omega (arith, size_facts _ c.requires.0)
 
-pub sub-requires : goal.sub-requires
-sub-requires c = omega (arith, bounds _ _ c.requires.1 c.tallied-t.ensures)
+pub bounds-numbers-1 : goal.bounds-numbers-1
+bounds-numbers-1 c = omega (arith, size_facts _ c.requires.0)
 
-pub size-range-requires : goal.size-range-requires
-size-range-requires c = omega (arith, bounds _ _ c.requires.1 c.tallied-t.ensures)
+pub overflow_sub-first : goal.overflow_sub-first
+overflow_sub-first c = let g = first_good c.args.numbers.now c.requires.1 in difference_fits g.0 g.1
 
-pub overflow_cast-numbers : goal.overflow_cast-numbers
-overflow_cast-numbers c = omega (arith, size_facts _ c.requires.0)
+pub loop-pair-init : goal.loop-pair-init
+loop-pair-init c =
+    let numbers = c.args.numbers.now in
+    let same = c.into_iter-pair-iterator.ensures.into_iter_gives in
+    let items = c.chunks_exact-pair-items.ensures in
+    let g = first_good numbers c.requires.1 in
+    (ap (λ i. i.size) same ∙ items.size, rw (ap (λ i. i.rest.now) same ∙ items.rest, difference_is g.0 g.1) (begun numbers c.requires.0 c.requires.1))
+
+pub overflow_sub-difference : goal.overflow_sub-difference
+overflow_sub-difference c =
+    let e = c.in-Some.ensures.steps in
+    let g = pair_good _ _ c.loop-pair.invariant.1 e.1.0 (e.1.1 ∙ c.loop-pair.invariant.0) in
+    difference_fits g.0 g.1
+
+pub overflow_add-sum : goal.overflow_add-sum
+overflow_add-sum c =
+    let e = c.in-Some.ensures.steps in
+    sum_fits _ _ c.loop-pair.invariant.1 e.1.0 (e.1.1 ∙ c.loop-pair.invariant.0)
+
+pub loop-pair-preserved : goal.loop-pair-preserved
+loop-pair-preserved c =
+    let e = c.in-Some.ensures.steps in
+    (e.0 ∙ c.loop-pair.invariant.0, after _ _ c.loop-pair.invariant.1 e.1.0 (e.1.1 ∙ c.loop-pair.invariant.0) _ _ c.max-largest.ensures.value c.min-smallest.ensures.value)
+
+pub overflow_cast-result : goal.overflow_cast-result
+overflow_cast-result c = omega (arith, size_facts _ c.requires.0)
+
+pub overflow_sub-largest : goal.overflow_sub-largest
+overflow_sub-largest c = (ended c.loop-pair.invariant.1 (omega (arith, c.in-None.ensures.steps.1, c.loop-pair.invariant.0))).fits
 
 pub returns : goal.returns
 unfolding set_of
 returns c =
-    let numbers = c.args.numbers.now in
-    let t = c.tallied-t.ensures in
-    let range = c.size-range.ensures.0 ∙ ap nat_abs (c.sub.ensures.is ∙ (λ i. t.high i -ℤ t.low i)) in
-    c.made.ensures ∙ (λ i. record { count = sym (diff_length numbers) i; sum = t.sum i; range = range i })
+    let d = ended c.loop-pair.invariant.1 (omega (arith, c.in-None.ensures.steps.1, c.loop-pair.invariant.0)) in
+    let range = c.unsigned_abs.ensures.value ∙ d.range in
+    λ i. record { count = sym (diff_length c.args.numbers.now) i; sum = d.sum i; range = range i }

@@ -23,20 +23,20 @@ width z n f e h = width_5 n (omega (arith, size z n f e))
 
 pub put_number-requires : goal.put_number-requires
 put_number-requires c =
-    let w = width c.args.z _ c.ranges.z c.magnitude-n.ensures c.requires.z_bound in
+    let w = width c.args.z _ c.ranges.z c.unsigned_abs-n.ensures.value c.requires.z_bound in
     omega (arith, c.put_byte-next.ensures.behind, c.put_byte-sign.ensures.behind, c.put_byte-next.auto.out, c.put_byte-sign.auto.out, c.requires.at_in_bounds)
 
 pub put_field-requires : goal.put_field-requires
 put_field-requires c =
-    let w = width c.args.z _ c.ranges.z c.magnitude-n.ensures c.requires.z_bound in
+    let w = width c.args.z _ c.ranges.z c.unsigned_abs-n.ensures.value c.requires.z_bound in
     omega (arith, c.requires.at_in_bounds)
 
 pub returns-then-z-lt0 : goal.returns-then-z-lt0
 returns-then-z-lt0 c =
     let below = sym (below_zero c.args.z c.ranges.z) ∙ c.if-z-lt0.true in
-    put_is (put_then (put_then c.put_byte-sign.ensures c.put_byte-next.ensures) c.put_number.ensures) (ap (λ (n : ℕ). 32 ∷ 45 ∷ show n) (size c.args.z _ c.ranges.z c.magnitude-n.ensures) ∙ ap (λ (l : List ℕ). 32 ∷ l) (show_below c.args.z below))
+    put_is (put_then (put_then c.put_byte-sign.ensures c.put_byte-next.ensures) c.put_number.ensures) (ap (λ (n : ℕ). 32 ∷ 45 ∷ show n) (size c.args.z _ c.ranges.z c.unsigned_abs-n.ensures.value) ∙ ap (λ (l : List ℕ). 32 ∷ l) (show_below c.args.z below))
 
 pub returns-else-z-lt0 : goal.returns-else-z-lt0
 returns-else-z-lt0 c =
     let above = sym (below_zero c.args.z c.ranges.z) ∙ c.if-z-lt0.false in
-    put_is c.put_field.ensures (ap (λ (n : ℕ). 32 ∷ show n) (size c.args.z _ c.ranges.z c.magnitude-n.ensures) ∙ ap (λ (l : List ℕ). 32 ∷ l) (show_above c.args.z above))
+    put_is c.put_field.ensures (ap (λ (n : ℕ). 32 ∷ show n) (size c.args.z _ c.ranges.z c.unsigned_abs-n.ensures.value) ∙ ap (λ (l : List ℕ). 32 ∷ l) (show_above c.args.z above))

@@ -17,7 +17,8 @@ use Rattle.market.proofs.answer.Goals as goal
 pub returns-then-not-is_sound : goal.returns-then-not-is_sound
 returns-then-not-is_sound c =
     let s = c.args in
-    answer_unsound (station_in s.state.now) s.day s.line s.scan s.asked s.basis (sym c.is_sound.ensures ∙ c.if-not-is_sound.true)
+    let q = s.request.now in
+    answer_unsound (station_in s.state.now) q.day q.line q.scan q.asked q.basis (sym c.is_sound.ensures ∙ c.if-not-is_sound.true)
 
 pub day_of-requires : goal.day_of-requires
 day_of-requires c = all_places c.args.state.now (sym c.is_sound.ensures ∙ c.if-not-is_sound.false)
@@ -25,36 +26,39 @@ day_of-requires c = all_places c.args.state.now (sym c.is_sound.ensures ∙ c.if
 pub returns-then-is_bad_day : goal.returns-then-is_bad_day
 returns-then-is_bad_day c =
     let s = c.args in
-    answer_day (station_in s.state.now) s.day s.line s.scan s.asked s.basis (sym c.is_sound.ensures ∙ c.if-not-is_sound.false) (sym (day_read s.day c.is_bad_day.ensures c.day_of.ensures) ∙ c.if-is_bad_day.true)
+    let q = s.request.now in
+    answer_day (station_in s.state.now) q.day q.line q.scan q.asked q.basis (sym c.is_sound.ensures ∙ c.if-not-is_sound.false) (sym (day_read q.day c.is_bad_day.ensures c.day_of.ensures) ∙ c.if-is_bad_day.true)
 
 pub row_of-row-requires : goal.row_of-row-requires
 row_of-row-requires c = all_places c.args.state.now (sym c.is_sound.ensures ∙ c.if-not-is_sound.false)
 
-pub returns-then-line_count-line : goal.returns-then-line_count-line
-returns-then-line_count-line c =
+pub returns-then-line_count-request : goal.returns-then-line_count-request
+returns-then-line_count-request c =
     let s = c.args in
-    let few = c.if-line_count-line.true in
+    let q = s.request.now in
+    let few = c.if-line_count-request.true in
     let lines = c.line_count.ensures ∙ ap line_count c.row_of-row.ensures in
-    answer_line (station_in s.state.now) s.day s.line s.scan s.asked s.basis (sym c.is_sound.ensures ∙ c.if-not-is_sound.false) (sym (day_read s.day c.is_bad_day.ensures c.day_of.ensures) ∙ c.if-is_bad_day.false) (omega arith)
+    answer_line (station_in s.state.now) q.day q.line q.scan q.asked q.basis (sym c.is_sound.ensures ∙ c.if-not-is_sound.false) (sym (day_read q.day c.is_bad_day.ensures c.day_of.ensures) ∙ c.if-is_bad_day.false) (omega arith)
 
-pub line_of-l-requires : goal.line_of-l-requires
-line_of-l-requires c =
-    let few = c.if-line_count-line.false in
+pub line_of-requires : goal.line_of-requires
+line_of-requires c =
+    let few = c.if-line_count-request.false in
     let lines = c.line_count.ensures ∙ ap line_count c.row_of-row.ensures in
     let most = (row_facts (station_in c.args.state.now).row).three_lines in
     (all_places c.args.state.now (sym c.is_sound.ensures ∙ c.if-not-is_sound.false), omega arith)
 
-pub judge_scan-requires : goal.judge_scan-requires
-judge_scan-requires c =
-    let few = c.if-line_count-line.false in
+pub judge-requires : goal.judge-requires
+judge-requires c =
+    let few = c.if-line_count-request.false in
     let lines = c.line_count.ensures ∙ ap line_count c.row_of-row.ensures in
-    subst⁻¹ LineFits c.line_of-l.ensures (line_fits (station_in c.args.state.now) c.args.line (sym c.is_sound.ensures ∙ c.if-not-is_sound.false) (omega arith))
+    subst⁻¹ LineFits c.line_of.ensures (line_fits (station_in c.args.state.now) c.args.request.now.line (sym c.is_sound.ensures ∙ c.if-not-is_sound.false) (omega arith))
 
 pub returns : goal.returns
 returns c =
     let s = c.args in
-    let few = c.if-line_count-line.false in
+    let q = s.request.now in
+    let few = c.if-line_count-request.false in
     let lines = c.line_count.ensures ∙ ap line_count c.row_of-row.ensures in
-    c.judge_scan.ensures
-    ∙ ap₂ (λ (row : ℕ) (l : Line). tested_of row (line_values l) s.day s.line s.scan s.asked s.basis) c.row_of-row.ensures c.line_of-l.ensures
-    ∙ answer_tested (station_in s.state.now) s.day s.line s.scan s.asked s.basis (sym c.is_sound.ensures ∙ c.if-not-is_sound.false) (sym (day_read s.day c.is_bad_day.ensures c.day_of.ensures) ∙ c.if-is_bad_day.false) (omega arith)
+    c.judge.ensures
+    ∙ ap₂ (λ (row : ℕ) (l : Line). tested_of row (line_values l) q.day q.line q.scan q.asked q.basis) c.row_of-row.ensures c.line_of.ensures
+    ∙ answer_tested (station_in s.state.now) q.day q.line q.scan q.asked q.basis (sym c.is_sound.ensures ∙ c.if-not-is_sound.false) (sym (day_read q.day c.is_bad_day.ensures c.day_of.ensures) ∙ c.if-is_bad_day.false) (omega arith)

@@ -1,46 +1,26 @@
-use mathlib.Core.Path.{◌≡◌, sym, ap, ◌∙◌}
-use mathlib.Core.Bool.{Bool, true, not}
-use native.Mathlib.Omega.{arith}
-use lib.IntN.{ℤ}
-use Rattle.whole.proofs.Tests.{or_right}
-use Rattle.station_rules.specs.Sheets.{Sample, deviates, final_deviation, kept}
-use Rattle.station_rules.specs.declared.Limits.{Limits}
-use Rattle.sheet_numbers.specs.Samples.{sample_of}
-use Rattle.sheet_again.specs.Tallies.{as_set}
-use Rattle.sheet_again.proofs.TotalLaws.{kept_is, tallied_yes, tallied_no}
+use mathlib.Core.Path.{◌≡◌}
+use Rattle.std.proofs.Common.{arith}
+use Rattle.std.proofs.lemmas.Int.{ints, to_z-of_z}
+use Rattle.std.proofs.lemmas.Result.{err_from_is_err_and}
+use Rattle.station_rules.specs.Sheets.{deviates}
+use Rattle.sheet_again.proofs.TotalLaws.{refused, dropped, joins}
 use Rattle.sheet_again.proofs.add_sample.Goals as goal
 
--- a sample is kept where it doesn't deviate any more
-stays : (limits : Limits) (intercept : ℤ) (s : Sample) {d : ℤ} {r : Bool} → r ≡ deviates limits d → d ≡ final_deviation limits intercept true s
-    → not r ≡ kept limits intercept true s
-stays limits intercept s e f = ap not (e ∙ ap (deviates limits) f) ∙ sym (kept_is limits intercept s)
+pub returns-in_err-d : goal.returns-in_err-d
+returns-in_err-d c =
+    let a = c.args in
+    let p = err_from_is_err_and c.from_residual.result c.from_residual.ensures.1 in
+    rw (p.1, p.2) (refused a.terms.limits a.terms.intercept a.t a.s c.in_err-d.ensures.is)
 
 pub returns-then-is_deviating : goal.returns-then-is_deviating
 returns-then-is_deviating c =
     let a = c.args in
-    let r = c.in_round-a.ensures in
-    record {
-      wrong = c.either-wrong.ensures ∙ or_right a.t.wrong r.wrong;
-      is =
-          tallied_no a.limits a.intercept.z (as_set a.t) (sample_of a.s) (stays a.limits a.intercept.z (sample_of a.s) c.is_deviating.ensures r.is)
-          (ap not c.if-is_deviating.true);
-      high = omega arith;
-      low = omega arith;
-      more = omega arith;
-    }
+    let test : c.is_deviating.result ≡ deviates a.terms.limits c.in_ok-d.d = grind (arith, to_z-of_z) in
+    dropped a.terms.limits a.terms.intercept a.t a.s c.in_ok-d.ensures.is test c.if-is_deviating.true
 
 pub returns : goal.returns
 returns c =
     let a = c.args in
-    let r = c.in_round-a.ensures in
-    let w = r.small in
-    let sum = c.add.ensures in
-    record {
-      wrong = c.either-wrong.ensures ∙ or_right a.t.wrong r.wrong;
-      is =
-          tallied_yes a.limits a.intercept.z (as_set a.t) (sample_of a.s) (stays a.limits a.intercept.z (sample_of a.s) c.is_deviating.ensures r.is)
-          (ap not c.if-is_deviating.false) sum.is r.is;
-      high = omega arith;
-      low = omega arith;
-      more = omega arith;
-    }
+    let test : c.is_deviating.result ≡ deviates a.terms.limits c.in_ok-d.d = grind (arith, to_z-of_z) in
+    let small = c.in_ok-d.ensures.small in
+    joins a.terms.limits a.terms.intercept a.t a.s c.in_ok-d.ensures.is test c.if-is_deviating.false (omega (arith, ints, small.over, small.under))

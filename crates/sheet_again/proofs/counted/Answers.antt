@@ -1,63 +1,59 @@
-use mathlib.Core.Path.{◌∙◌, ap}
-use mathlib.Core.Bool.{true, false}
+use mathlib.Core.Path.{ap, ◌∙◌, subst⁻¹}
+use mathlib.Core.Bool.{true}
 use native.Mathlib.Omega.{arith}
-use Rattle.whole.proofs.Fold.{going_start}
-use Rattle.whole.proofs.ListLaws.{or_else, any_fold}
-use Rattle.station_rules.specs.Sheets.{Sample, samples_of, wrong_again}
-use Rattle.station_rules.specs.declared.Set.{Set}
-use Rattle.sheet_numbers.proofs.SheetLaws.{pass_step, pass_done, sample_measured}
-use Rattle.sheet_again.specs.Tallies.{as_set, tallied}
-use Rattle.sheet_again.proofs.TotalLaws.{none, totals_fold}
+use Rattle.std.specs.Slice.Iter.{chunks_exact_rest, chunks_exact_size}
+use Rattle.std.proofs.lemmas.Result.{err_from_is_err_and}
+use Rattle.station_rules.specs.Sheets.{wrong_again}
+use Rattle.station_refusals.specs.declared.Refusal.TheVariants.{AgainPair}
+use Rattle.sheet_numbers.specs.Samples.{Measured}
+use Rattle.sheet_numbers.proofs.SheetLaws.{passed_stop, passed_end}
+use Rattle.sheet_again.specs.Tallies.{tallied, added}
+use Rattle.sheet_again.proofs.TotalLaws.{counting_start, part_measured, counting_next}
 use Rattle.sheet_again.proofs.counted.Goals as goal
 
-pub loop-i-init : goal.loop-i-init
-loop-i-init c =
+pub loop-part-init : goal.loop-part-init
+loop-part-init c =
+    let t = c.args.terms in
+    let same = c.into_iter-part-iterator.ensures.into_iter_gives in
+    let items = c.chunks_exact-part-items.ensures in
     record {
-      within = omega arith;
-      count = omega arith;
-      small = omega arith;
-      totals = going_start _ _ _;
-      wrong = going_start _ _ _;
+      six = ap chunks_exact_size same ∙ items.size;
+      counting = counting_start t.limits t.intercept t.fair c.args.numbers.now (ap chunks_exact_rest same ∙ items.rest) c.requires.0 c.requires.1;
     }
 
-pub add_sample-t-requires-clause-fair : goal.add_sample-t-requires-clause-fair
-add_sample-t-requires-clause-fair c =
-    (c.requires.0, sample_measured c.args.samples c.loop-i.i c.args.numbers.now c.loop-i-test.true c.requires.1 c.sample_at-s.ensures)
+pub add_sample-requires-clause-fair : goal.add_sample-requires-clause-fair
+add_sample-requires-clause-fair c =
+    let t = c.args.terms in
+    let l = c.loop-part in
+    let step = c.in-Some.ensures.steps in
+    subst⁻¹ Measured c.sample_of.ensures
+    (part_measured t.limits t.intercept t.fair c.args.numbers.now _ c.in-Some.part.now _ step.1.0 (step.1.1 ∙ l.invariant.six) l.t l.invariant.counting)
 
-pub loop-i-preserved : goal.loop-i-preserved
-loop-i-preserved c =
-    let l = c.loop-i in
-    let t = c.loop-i-test.true in
-    let a = c.add_sample-t.ensures in
-    let r = c.add_sample-t.result in
-    let numbers = c.args.numbers.now in
-    let size = c.requires.1.sized.size in
-    let f : Set → Sample → Set = tallied c.args.limits c.args.intercept.z in
-    let wrong = wrong_again c.args.limits c.args.intercept.z true in
+pub loop-part-preserved : goal.loop-part-preserved
+loop-part-preserved c =
+    let t = c.args.terms in
+    let l = c.loop-part in
+    let step = c.in-Some.ensures.steps in
     record {
-      within = omega arith;
-      count = omega arith;
-      small = omega arith;
-      totals =
-          pass_step c.args.samples numbers size f none l.i (as_set l.t) l.invariant.totals (as_set r) t
-          (a.is ∙ ap (f (as_set l.t)) c.sample_at-s.ensures);
-      wrong =
-          pass_step c.args.samples numbers size (or_else wrong) false l.i l.t.wrong l.invariant.wrong r.wrong t
-          (a.wrong ∙ ap (or_else wrong l.t.wrong) c.sample_at-s.ensures);
+      six = step.0 ∙ l.invariant.six;
+      counting = counting_next t.limits t.intercept t.fair c.args.numbers.now _ c.in-Some.part.now _ step.1.0 (step.1.1 ∙ l.invariant.six) l.t l.invariant.counting
+          (c.in_ok-t.ensures ∙ ap (added t.limits t.intercept l.t) c.sample_of.ensures);
     }
 
-pub returns : goal.returns
-returns c =
-    let l = c.loop-i in
-    let numbers = c.args.numbers.now in
-    let size = c.requires.1.sized.size in
-    let n = c.requires.1.sized.most in
-    let f : Set → Sample → Set = tallied c.args.limits c.args.intercept.z in
-    let wrong = wrong_again c.args.limits c.args.intercept.z true in
-    record {
-      wrong = pass_done c.args.samples numbers size (or_else wrong) false l.i l.t.wrong l.invariant.wrong c.loop-i-test.false ∙ any_fold wrong (samples_of numbers);
-      is =
-          pass_done c.args.samples numbers size f none l.i (as_set l.t) l.invariant.totals c.loop-i-test.false
-          ∙ totals_fold c.args.limits c.args.intercept.z (samples_of numbers);
-      small = omega arith;
-    }
+pub returns-in_err-t-clause-is : goal.returns-in_err-t-clause-is
+unfolding added
+returns-in_err-t-clause-is c =
+    let t = c.args.terms in
+    let l = c.loop-part in
+    let step = c.in-Some.ensures.steps in
+    let stop = passed_stop (wrong_again t.limits t.intercept true) AgainPair (tallied t.limits t.intercept) _ c.in-Some.part.now _ step.1.0 (step.1.1 ∙ l.invariant.six) l.t
+    (c.in_err-t.ensures ∙ ap (added t.limits t.intercept l.t) c.sample_of.ensures) in
+    let p = err_from_is_err_and c.from_residual.result c.from_residual.ensures.1 in
+    rw (p.1, p.2) (stop ∙ l.invariant.counting.whole)
+
+pub returns-clause-is : goal.returns-clause-is
+returns-clause-is c =
+    let t = c.args.terms in
+    let l = c.loop-part in
+    let short = c.in-None.ensures.steps.1.0 in
+    passed_end (wrong_again t.limits t.intercept true) AgainPair (tallied t.limits t.intercept) _ l.t (omega (arith, l.invariant.six)) ∙ l.invariant.counting.whole

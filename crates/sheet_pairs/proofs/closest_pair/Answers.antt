@@ -1,10 +1,13 @@
-use mathlib.Core.Path.{◌∙◌, ap₂}
-use Rattle.station_rules.specs.Sheets.{closer, closest_pair}
-use Rattle.sheet_pairs.proofs.PairLaws.{read_pair}
+use mathlib.Core.Path.{◌≡◌, subst⁻¹}
+use Rattle.std.proofs.Common.{arith}
+use Rattle.std.proofs.lemmas.Int.{to_z-of_z}
+use Rattle.station_rules.specs.Sheets.{closest_pair}
+use Rattle.sheet_pairs.specs.Pairs.{pair_of}
+use Rattle.sheet_pairs.proofs.PairLaws.{In, closest_in}
 use Rattle.sheet_pairs.proofs.closest_pair.Goals as goal
 
 pub returns : goal.returns
 unfolding closest_pair
 returns c =
-    let m = c.requires in
-    (c.closer-2.ensures.0 ∙ ap₂ closer (c.closer.ensures.0 ∙ ap₂ closer (read_pair m.first m.second) (read_pair m.first m.third)) (read_pair m.second m.third), c.closer-2.ensures.1)
+    let e : pair_of c.closer-2.result ≡ closest_pair c.args.s = grind (arith, to_z-of_z) in
+    (e, subst⁻¹ In e (closest_in c.args.s c.requires))

@@ -1,20 +1,49 @@
-use Rattle.sheet_pass.proofs.PassLaws.{passing_start, passing_next, passing_stop, passing_end}
+use mathlib.Core.Path.{ap, ◌∙◌}
+use native.Mathlib.Omega.{arith}
+use Rattle.std.specs.Slice.Iter.{chunks_exact_rest, chunks_exact_size}
+use Rattle.std.proofs.lemmas.Result.{err_from_is_err_and}
+use Rattle.station_rules.specs.Sheets.{wrong_number}
+use Rattle.station_refusals.specs.declared.Refusal.TheVariants.{SheetNumber}
+use Rattle.sheet_numbers.proofs.SheetLaws.{passed_stop, passed_end}
+use Rattle.sheet_pass.specs.Passes.{more, joined}
+use Rattle.sheet_pass.proofs.PassLaws.{passing_start, passing_next}
 use Rattle.sheet_pass.proofs.pass.Goals as goal
 
-pub loop-i-init : goal.loop-i-init
-loop-i-init c = passing_start c.args.limits c.args.intercept.z c.args.samples c.args.numbers.now
+pub loop-part-init : goal.loop-part-init
+loop-part-init c =
+    let t = c.args.terms in
+    let same = c.into_iter-part-iterator.ensures.into_iter_gives in
+    let items = c.chunks_exact-part-items.ensures in
+    record {
+      six = ap chunks_exact_size same ∙ items.size;
+      passing = passing_start t.limits t.intercept t.fair c.args.numbers.now (ap chunks_exact_rest same ∙ items.rest) c.requires.0 c.requires.1;
+    }
 
-pub returns-then-t : goal.returns-then-t
-returns-then-t c =
-    let l = c.loop-i in
-    passing_stop c.args.limits c.args.intercept.z c.args.samples c.args.numbers.now c.requires.1 l.i l.t c.joined-t.result _ l.invariant c.joined-t.ensures c.loop-i-test.true c.sample_at.ensures c.if-t.true
+pub loop-part-preserved : goal.loop-part-preserved
+loop-part-preserved c =
+    let t = c.args.terms in
+    let l = c.loop-part in
+    let step = c.in-Some.ensures.steps in
+    record {
+      six = step.0 ∙ l.invariant.six;
+      passing = passing_next t.limits t.intercept t.fair c.args.numbers.now _ c.in-Some.part.now _ step.1.0 (step.1.1 ∙ l.invariant.six) l.t l.invariant.passing
+          (c.in_ok-t.ensures ∙ ap (joined t.limits t.intercept l.t) c.sample_of.ensures);
+    }
 
-pub loop-i-preserved : goal.loop-i-preserved
-loop-i-preserved c =
-    let l = c.loop-i in
-    passing_next c.args.limits c.args.intercept.z c.args.samples c.args.numbers.now c.requires.1 l.i l.t c.joined-t.result _ l.invariant c.joined-t.ensures c.loop-i-test.true c.sample_at.ensures c.if-t.false
+pub returns-in_err-t-clause-is : goal.returns-in_err-t-clause-is
+unfolding joined
+returns-in_err-t-clause-is c =
+    let t = c.args.terms in
+    let l = c.loop-part in
+    let step = c.in-Some.ensures.steps in
+    let stop = passed_stop wrong_number SheetNumber (more t.limits t.intercept) _ c.in-Some.part.now _ step.1.0 (step.1.1 ∙ l.invariant.six) l.t
+    (c.in_err-t.ensures ∙ ap (joined t.limits t.intercept l.t) c.sample_of.ensures) in
+    let p = err_from_is_err_and c.from_residual.result c.from_residual.ensures.1 in
+    rw (p.1, p.2) (stop ∙ l.invariant.passing.whole)
 
-pub returns : goal.returns
-returns c =
-    let l = c.loop-i in
-    passing_end c.args.limits c.args.intercept.z c.args.samples c.args.numbers.now c.requires.1 l.i l.t l.invariant c.loop-i-test.false
+pub returns-clause-is : goal.returns-clause-is
+returns-clause-is c =
+    let t = c.args.terms in
+    let l = c.loop-part in
+    let short = c.in-None.ensures.steps.1.0 in
+    passed_end wrong_number SheetNumber (more t.limits t.intercept) _ l.t (omega (arith, l.invariant.six)) ∙ l.invariant.passing.whole

@@ -1,9 +1,11 @@
-use Prim.Native.Nat.{◌-◌}
+use Rattle.std.proofs.Common.{◌≡◌}
+use Rattle.std.specs.Slice.Iter.{chunks_exact_rest, chunks_exact_size}
 use Rattle.sheet_pass.proofs.PassLaws.{Passing}
 use Rattle.sheet_pass.proofs.pass.Given as goal
 
-abbrev pub invariant-loop-i : goal.invariant-loop-i
-invariant-loop-i l = Passing l.limits l.intercept.z l.samples l.numbers l.i l.t
-
-abbrev pub decreases-loop-i : goal.decreases-loop-i
-decreases-loop-i l = l.samples - l.i
+abbrev pub invariant-loop-part : goal.invariant-loop-part
+invariant-loop-part l =
+    record {
+      six : chunks_exact_size l.part-iterator ≡ 6;
+      passing : Passing l.terms.limits l.terms.intercept l.terms.fair l.numbers (chunks_exact_rest l.part-iterator) l.t;
+    }

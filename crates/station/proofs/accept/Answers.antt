@@ -1,4 +1,5 @@
 -- `station::accept` meets its contract: each place that is written, by what its callee wrote.
+use Rattle.std.specs.Prelude.{Ok}
 use mathlib.Core.Path.{◌∙◌, ap, subst⁻¹}
 use mathlib.Core.List.{List}
 use Prim.Native.Nat.{ℕ, ◌<◌}
@@ -7,7 +8,8 @@ use lib.IntN.{ℤ}
 use lib.ListN.{length}
 use mir.Syntax.{w32}
 use mir.Val.{SFits}
-use Rattle.whole.specs.Parts.{Within}
+use Rattle.whole.specs.Bounds.{Within}
+use Rattle.whole.proofs.BoundLaws.{in_parts}
 use Rattle.whole.proofs.Read.{rd, back, back_in}
 use Rattle.station_rules.specs.Rows.{limits_of}
 use Rattle.station_rules.specs.Lines.{verdict_of, change_of}
@@ -15,7 +17,6 @@ use Rattle.station_rules.specs.Held.{line_values, phase_said}
 use Rattle.station_rules.specs.Places.{line_places, station_in}
 use Rattle.station_rules.specs.InPlace.{sheet_line, with_day, with_line}
 use Rattle.station_rules.specs.declared.Set.{Set}
-use Rattle.station_rules.specs.declared.SheetAnswer.{SheetAnswer}
 use Rattle.station_rules.proofs.RowFacts.{row_facts}
 use Rattle.station_rules.proofs.InPlace.{all_places, line_full, sheet_full, line_written}
 use Rattle.line_averages.specs.Ranges.{Limited}
@@ -34,7 +35,7 @@ set_fits : (w : List ℤ) (day line : ℕ) (set : Set) → Acceptable w day line
 set_fits w day line set h =
     let today = h.today in
     let few = h.fits.few in
-    record { day = omega arith; sum = subst⁻¹ (Within 132000 132000) (back_in h.fits.within tt tt).is h.fits.within; count = omega arith }
+    record { day = omega arith; sum = subst⁻¹ (Within 132000 132000) (back_in (in_parts h.fits.within) tt tt).is h.fits.within; count = omega arith }
 
 pub line_of-l-requires : goal.line_of-l-requires
 line_of-l-requires c = (all_places c.args.state.now c.requires.right, three _ _ _ _ c.requires)
@@ -79,14 +80,14 @@ returns c =
     let line = c.args.line in
     let limits_are = c.limits_of-limits.ensures ∙ ap (λ (row : ℕ). limits_of row line) c.row_of.ensures in
     let e = c.verdict_on-v.ensures.0 ∙ (λ i. verdict_of (limits_are i) (line_values (c.line_of-l.ensures i)) c.args.day c.args.set) in
-    let f = back_in c.requires.fits.within tt tt in
-    let g : SFits w32 c.bare.result = search rules in
+    let f = back_in (in_parts c.requires.fits.within) tt tt in
+    let g : SFits w32 c.change_of.result = search rules in
     λ i. record {
-      answer = SheetAnswer.Accepted (record {
+      answer = Ok (record {
         sum = f.is i;
         count = c.args.set.count;
         phase = (c.phase_said.ensures ∙ ap phase_said e) i;
-        change = ((back g).is ∙ c.bare.ensures ∙ c.change_of-change.ensures ∙ ap change_of e) i;
+        change = ((back g).is ∙ c.change_of.ensures ∙ ap change_of e) i;
       });
       places = (c.put_day.ensures
           ∙ ap (λ (x : List ℤ). with_day x c.args.day)

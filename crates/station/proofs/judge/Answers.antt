@@ -2,6 +2,7 @@
 use mathlib.Core.Path.{sym, ◌∙◌, ap, subst⁻¹}
 use Prim.Native.Nat.{ℕ, ◌<◌}
 use native.Mathlib.Omega.{arith}
+use Rattle.whole.proofs.BoundLaws.{in_parts}
 use Rattle.whole.proofs.Read.{back_in}
 use Rattle.station_rules.specs.Rows.{samples, line_count, limits_of}
 use Rattle.station_rules.specs.Places.{station_in}
@@ -53,7 +54,7 @@ judge-requires c =
     let limits_are = c.limits_of-limits.ensures ∙ ap (λ (row : ℕ). limits_of row c.args.line) c.row_of-row.ensures in
     let r = row_facts c.row_of-row.result in
     let n = c.sample_count-samples.ensures in
-    (limits_fair station.row c.args.line here limits_are fits.small, (omega (arith, r.some_samples), omega (arith, r.six_samples)))
+    (limits_fair station.row c.args.line here limits_are (in_parts fits.small), (omega (arith, r.some_samples), omega (arith, r.six_samples)))
 
 pub returns : goal.returns
 returns c =
@@ -64,7 +65,7 @@ returns c =
     let right = sym c.is_sound.ensures ∙ c.if-not-is_sound.false in
     let fits = subst⁻¹ LineFits c.line_of-l.ensures (line_fits station c.args.line right here) in
     let limits_are = c.limits_of-limits.ensures ∙ ap (λ (row : ℕ). limits_of row c.args.line) c.row_of-row.ensures in
-    let b = back_in fits.small tt tt in
+    let b = back_in (in_parts fits.small) tt tt in
     ruled_by c.args.state.now c.args.day c.args.line c.args.numbers.now right (sym (day_read c.args.day c.is_bad_day.ensures c.day_of.ensures) ∙ c.if-is_bad_day.false) here _
     (c.judge.ensures
     ∙ (λ i. judged_of (limits_are i) ((b.is ∙ ap (λ (x : Line). x.intercept) c.line_of-l.ensures) i) ((c.sample_count-samples.ensures ∙ ap samples c.row_of-row.ensures) i) c.args.numbers.now))

@@ -1,4 +1,5 @@
 -- `station::repair` meets its contract: each way out is one law of `repair_in`.
+use Rattle.std.specs.Prelude.{Ok}
 use mathlib.Core.Path.{◌≡◌, sym, ◌∙◌, ap}
 use mathlib.Core.Bool.{false}
 use mathlib.Core.List.{List}
@@ -12,7 +13,6 @@ use Rattle.whole.proofs.Tests.{or_none}
 use Rattle.station_rules.specs.Judging.{day_check}
 use Rattle.station_rules.specs.Places.{station_in}
 use Rattle.station_rules.specs.InPlace.{with_day, with_repaired, repair_places}
-use Rattle.station_rules.specs.declared.RepairAnswer.{RepairAnswer}
 use Rattle.station_rules.proofs.InPlace.{all_places, repaired_47}
 use Rattle.station_soundness.proofs.FitsLaws.{day_read}
 use Rattle.station.proofs.CallLaws.{repair_unsound, repair_day, repair_done}
@@ -59,5 +59,5 @@ pub returns : goal.returns
 unfolding repair_places
 returns c =
     let all = c.repair_line-3.ensures ∙ ap (λ (v : List ℤ). with_repaired v 2) (c.repair_line-2.ensures ∙ ap (λ (v : List ℤ). with_repaired v 1) c.repair_line.ensures) in
-    (λ i. record { answer = RepairAnswer.Repaired; places = (c.put_day.ensures ∙ ap (λ (v : List ℤ). with_day v c.args.day) all) i })
+    (λ i. record { answer = Ok tt; places = (c.put_day.ensures ∙ ap (λ (v : List ℤ). with_day v c.args.day) all) i })
     ∙ repair_done c.args.state.now c.args.day (sym c.is_sound.ensures ∙ c.if-not-is_sound.false) (sym (day_read c.args.day c.is_bad_day.ensures c.day_of.ensures) ∙ c.if-is_bad_day.false)

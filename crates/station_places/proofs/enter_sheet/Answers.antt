@@ -2,7 +2,7 @@ use mathlib.Core.Path.{subst⁻¹}
 use Prim.Native.Nat.{ℕ, ◌≤◌}
 use lib.IntN.{ℤ}
 use lib.ListN.{take, drop}
-use Rattle.whole.specs.Parts.{Within}
+use Rattle.whole.specs.Bounds.{Within}
 use Rattle.whole.specs.Places.{place}
 use Rattle.station_rules.specs.Lines.{change_of}
 use Rattle.station_rules.specs.Places.{line_in, line_start}

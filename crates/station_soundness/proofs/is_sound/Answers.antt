@@ -1,13 +1,13 @@
 use mathlib.Core.Path.{sym, ◌∙◌, ap}
 use native.Mathlib.Omega.{arith}
-use lib.ListN.{length, take}
+use lib.ListN.{length, take, length-take}
 use borrow.Author.Tests.{ne_eqb}
 use Rattle.whole.specs.Lists.{all}
 use Rattle.station_rules.specs.Rows.{row_exists, samples, line_count}
 use Rattle.station_rules.specs.Soundness.{sound_line}
-use Rattle.station_rules.specs.Places.{row_in, station_in}
+use Rattle.station_rules.specs.Places.{row_in, line_in, station_in}
 use Rattle.station_rules.proofs.RowFacts.{row_facts}
-use Rattle.station_soundness.proofs.SoundLaws.{rowless, dayless, by_lines}
+use Rattle.station_soundness.proofs.SoundLaws.{rowless, dayless, by_lines, lines_cut, all_map}
 use Rattle.station_soundness.proofs.is_sound.Goals as goal
 
 pub returns-then-state-ne-STATION_PLACES : goal.returns-then-state-ne-STATION_PLACES
@@ -25,19 +25,25 @@ returns-then-day-gt-LAST_DAY c =
     let late = c.if-day-gt-LAST_DAY.true in
     dayless (station_in c.args.state.now) (sym (c.if-not-row_exists.ensures ∙ ap row_exists c.row_of-row.ensures)) (omega arith)
 
-pub sound_lines-requires-clause-n_bound : goal.sound_lines-requires-clause-n_bound
-sound_lines-requires-clause-n_bound c =
-    let r = row_facts c.row_of-row.result in
-    let n = c.sample_count.ensures in
-    let m = c.line_count.ensures in
-    (omega (arith, r.six_samples), omega (arith, r.three_lines))
+pub slice_bounds-sound_lines-end : goal.slice_bounds-sound_lines-end
+slice_bounds-sound_lines-end c =
+    let few = (row_facts c.row_of-row.result).three_lines in
+    let n = c.line_count.ensures in
+    let cut = c.as_chunks.ensures.front_len in
+    omega (arith, length-take c.line_count.result c.as_chunks.result.0.now, c.if-state-ne-STATION_PLACES.false)
+
+pub sound_lines-requires : goal.sound_lines-requires
+sound_lines-requires c = let n = c.sample_count.ensures in omega (arith, (row_facts c.row_of-row.result).six_samples)
 
 pub returns : goal.returns
 returns c =
-    let s = station_in c.args.state.now in
+    let w = c.args.state.now in
+    let s = station_in w in
     let day = c.day_of-day.ensures in
     let in-time = c.if-day-gt-LAST_DAY.false in
     let row = c.row_of-row.ensures in
+    let lines = lines_cut w c.as_chunks.result.0.now c.if-state-ne-STATION_PLACES.false c.as_chunks.ensures.front in
     c.sound_lines.ensures
-    ∙ (λ i. all (sound_line ((c.sample_count.ensures ∙ ap samples row) i) (day i)) (take ((c.line_count.ensures ∙ ap line_count row) i) s.lines))
+    ∙ all_map (sound_line c.sample_count.result c.day_of-day.result) line_in c.line_count.result c.as_chunks.result.0.now
+    ∙ (λ i. all (sound_line ((c.sample_count.ensures ∙ ap samples row) i) (day i)) (take ((c.line_count.ensures ∙ ap line_count row) i) (lines i)))
     ∙ by_lines s (sym (c.if-not-row_exists.ensures ∙ ap row_exists row)) (omega arith)

@@ -1,13 +1,17 @@
 -- `text_judge::judge_lines` meets its contract.
 use mathlib.Core.Path.{◌≡◌}
-use Prim.Native.Nat.{◌-◌, ◌≤◌}
+use Prim.Native.Nat.{◌+◌, ◌≤◌}
 use lib.ListN.{length}
-use Rattle.chart_rules.specs.Judging.{first_ruling, lines_at, value_lines, lines_checks, starts, verdict}
+use Rattle.chart_rules.specs.Judging.{first_ruling, value_lines, lines_checks, starts, verdict}
 use Rattle.chart_rules.proofs.Judging.{verdict_at}
+use Rattle.text_lines.specs.Lines.{lines_left}
 use Rattle.text_judge.proofs.judge_lines.Given as goal
 
-abbrev pub invariant-loop-at : goal.invariant-loop-at
-invariant-loop-at l = (l.line ≤ l.at) × (l.sets ≤ l.line) × (l.sample ≤ 5) × (verdict_at l.week l.sample l.sets l.line (lines_at l.text l.at) ≡ verdict (first_ruling (lines_checks 0 0 2 (value_lines l.text))) (starts (value_lines l.text)))
-
-abbrev pub decreases-loop-at : goal.decreases-loop-at
-decreases-loop-at l = length l.text - l.at
+abbrev pub invariant-loop-read : goal.invariant-loop-read
+invariant-loop-read l =
+    record {
+      few : l.line + length (lines_left l.read-iterator) ≤ 70000;
+      counted : l.sets ≤ l.line;
+      five : l.sample ≤ 5;
+      left : verdict_at l.week l.sample l.sets l.line (lines_left l.read-iterator) ≡ verdict (first_ruling (lines_checks 0 0 2 (value_lines l.text))) (starts (value_lines l.text));
+    }
