@@ -96,7 +96,7 @@ pub fn written(answer: Result<usize, RefusedText>) -> GrainWritten
         },
         Err(refused) => GrainWritten {
             accepted: 0,
-            number: refused.refusal.into(),
+            number: u32::from(refused.refusal),
             line: refused.line,
             length: 0,
         },

@@ -106,14 +106,12 @@ pub fn asked_of(kind: u32) -> Asked
 pub fn basis_for(kind: u32, b: i32) -> Basis
     ensures { result ≡ basis_for kind b }
 {
-    if AS_IS_BASIS < kind {
-        return Basis::Specified(NO_BASIS);
-    }
     match kind {
         STANDARD_BASIS => Basis::Standard,
         DRY_BASIS => Basis::Dry,
         SPECIFIED_BASIS => Basis::Specified(b),
-        _ => Basis::AsIs(b),
+        AS_IS_BASIS => Basis::AsIs(b),
+        _ => Basis::Specified(NO_BASIS),
     }
 }
 

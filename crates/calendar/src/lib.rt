@@ -58,7 +58,7 @@ pub fn date_from_day(day: u32) -> Result<Date, Refusal>
 
 // ---- weekdays
 
-// Day 0 is a Saturday.
+// Day 0 is a Saturday. A match, not a TryFrom: the remainder is always one of the seven.
 fn weekday_on(day: u32) -> Weekday
     requires { day ≤ 99999 }
     ensures { result ≡ weekday_on day }
@@ -108,6 +108,7 @@ pub fn working_day(day: u32, count: u32, holidays: &[i32]) -> Result<u32, Refusa
     let mut found = calendar_working::without_holidays(start, count);
     let mut least = 0;
     for holiday in holidays {
+        // a negative one is past the last day then
         let holiday = holiday.cast_unsigned();
         if !(least..=LAST_DAY).contains(&holiday) {
             return Err(Refusal::BadHolidays);

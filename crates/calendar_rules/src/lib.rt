@@ -33,7 +33,7 @@ pub const DUE_DAYS: u32 = 2;
 
 // ---- dates and weekdays
 
-// Year, month 1 to 12, day 1 to the month's length. What computes with it are functions of calendar_dates, not methods: these would have to stand here, in a crate of rules.
+// Year, month 1 to 12, day 1 to the month's length. What computes with it are functions of calendar_dates and calendar, not methods: as methods their proofs would stand here, among the rules.
 #[derive(Clone, Copy)]
 pub struct Date {
     pub year: u32,

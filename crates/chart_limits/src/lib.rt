@@ -40,8 +40,8 @@ pub fn absolute(limit: u32, s: ChartSet) -> bool
     limit * s.count <= s.sum.unsigned_abs()
 }
 
-// The lower and the upper line, each times the set's count, as the set's sum is compared with them.
-fn lines(limit: u32, s: ChartSet) -> (i32, i32)
+// The lower and the upper bound, each times the set's count, as the set's sum is compared with them.
+fn bounds(limit: u32, s: ChartSet) -> (i32, i32)
     requires { (limit ≤ 1000) × SetFits s }
     ensures { result ≡ (neg_ℤ (pos (limit * s.count)), pos (limit * s.count)) }
 {
@@ -56,8 +56,8 @@ pub fn tolerance(limit: u32, s: ChartSet, past: &[ChartSet]) -> bool
     ensures { result ≡ tolerance_of limit s past.now }
 {
     let [before, ..] = past else { return false };
-    let (lower, upper) = lines(limit, s);
-    let (lower_before, upper_before) = lines(limit, *before);
+    let (lower, upper) = bounds(limit, s);
+    let (lower_before, upper_before) = bounds(limit, *before);
     (upper <= s.sum && upper_before <= before.sum) || (s.sum <= lower && before.sum <= lower_before)
 }
 

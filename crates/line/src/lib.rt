@@ -126,7 +126,7 @@ pub fn enter_sheet(part: &mut [i32], p: PastSet, v: Verdict)
     }
 }
 
-// What an outcome says of the phase: an adjusted line and a shut one have their check due. No method of `Verdict`: its crate holds types and no code.
+// What an outcome says of the phase: an adjusted line and a shut one have their check due. No method of `Verdict`: its proof would stand among the rules.
 pub fn phase_said(v: Verdict) -> u32
     ensures { result ≡ phase_said v }
 {

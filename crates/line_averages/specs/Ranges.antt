@@ -13,6 +13,7 @@ pub record Together (k : ℕ) (set : Set) : Type 0 where
 
 -- a test of at most five sets
 pub record TestFits (t : Test) : Type 0 where
+  pub limit : t.limit ≤ 1000
   pub sets : SetsOf 5 t.sum t.count
   pub some : 1 ≤ t.count
 

@@ -31,7 +31,7 @@ fn all_below(past: &[PastSet]) -> bool
     past.iter().all(|p| p.sum < 0)
 }
 
-// Whether a set and past sets lie on one side of zero. Zero breaks it.
+// Whether a set and past sets lie on one side of zero. Zero breaks it. Of four past sets it is the rule's test of the five (`four_sides` of SideLaws).
 #[tactic(auto, using(crate::proofs::SideLaws::by_side))]
 pub fn on_one_side(set: Set, past: &[PastSet]) -> bool
     ensures { result ≡ (above set.sum && all (λ p. above p.sum) past.now || below set.sum && all (λ p. below p.sum) past.now) }

@@ -1,4 +1,4 @@
-// What the analyser answered: the float asked for. No methods of `Scan`: its crate, `station_rules`, has types and no code.
+// What the analyser answered: the float asked for. No methods of `Scan`: their proofs would stand among the rules.
 
 #![tactic(auto)]
 

@@ -1,23 +1,23 @@
 -- What `reading` finds in a float: its three comparisons are `in_range`, and where they pass, its bits, masked and shifted, give the reading.
 use Rattle.std.specs.Prelude.{Some, None}
-use Rattle.std.proofs.Common.{Less, Equal, Greater}
-use Rattle.std.specs.Ordering.{is_some_and, is_le, partial_lt, partial_le, float_partial_cmp}
-use Rattle.std.proofs.lemmas.Bool.Decides.{nat_tests}
-use mathlib.Core.Path.{◌≡◌, refl, sym, ap, ap₂, ◌∙◌, subst}
-use mathlib.Core.Bool.{Bool, true, false, cond, ◌&&◌, true≢false}
+use mathlib.Core.Path.{◌≡◌, refl, sym, ap, ◌∙◌, subst}
+use mathlib.Core.Bool.{Bool, true, false, not, ◌&&◌, true≢false}
 use Prim.Native.Nat.{ℕ, zero, suc, ◌+◌, ◌-◌, ◌*◌, ◌/◌, ◌%◌, ◌^◌, ◌≤◌, ◌<◌}
-use native.Mathlib.Nat.{lt_of_le_of_lt, lt_of_lt_of_le, lt_of_not-le, lt_irrefl, le_trans, le_of_eq, le-add_right, mul-le-mul_right, mul-pos, zero-mul, add_comm}
+use native.Mathlib.Nat.{lt_of_le_of_lt, lt_of_lt_of_le, lt_of_not-le, lt_irrefl, le_trans, le_of_eq, le-add_right, mul-le-mul_right, mul-pos, zero-mul, eq-zero-or-pos, add_comm}
+use mathlib.Core.Logic.{inl, inr}
 use native.Mathlib.Omega.{arith}
 use lib.IntN.{pos}
-use lib.Dec.{T, ltb, leb, eqb, lit<}
+use lib.Dec.{T, leb, lit<}
 use lib.Pow.{pow-add, pow_mono, field}
 use lib.Bits.{bit_and, and_mask, mask_lt}
-use lib.Ieee.{Float, nan, inf, fin, binary32, up, down, fits, is_nan, of_bits, to_bits, lt, eq}
+use lib.Ieee.{Float, nan, inf, fin, binary32, up, down, fits, is_nan, of_bits, to_bits, lt, ne}
 use lib.Ieee.Fits.{up_pos}
-use borrow.Author.Tests.{le-leb}
+use lib.Ieee.Bits.{is_true}
+use lib.Ieee.Compare.{differs_from_itself}
+use borrow.Author.Tests.{ltb-true, ltb-false, le-leb, lt-leb, eq-eqb, ne_eqb}
 use Rattle.reading.specs.Reading.{unit, units_of, in_range, rounded_of, reading_of, answer_of}
 use Rattle.reading.proofs.Units.{field_units, units_by_fields}
-use Rattle.reading.proofs.Laws.{answer_in, range_finite, range_units}
+use Rattle.reading.proofs.Laws.{answer_in, answer_out, range_finite, range_units}
 use Rattle.reading.proofs.Shift.{scaled}
 
 -- ---- the comparisons. 0.0 and 100.0 are as MIR has them, by their bit patterns
@@ -36,52 +36,57 @@ hundred_is : of_bits binary32 0x42c8_0000 ≡ hundred
 unfolding of_bits
 hundred_is = refl
 
--- `<=` of floats by the sizes that it compares: of one sign, of zero and what is not above it, of what is not above zero and what is not below it
-abbrev at_most_by : (less equal greater : Bool) → Bool
-at_most_by less equal greater = is_some_and is_le (cond less (Some Less) (cond equal (Some Equal) (cond greater (Some Greater) None)))
+-- a product whose second factor is above 0 is 0 exactly where the first is
+first_zero : (m u : ℕ) → 0 < u → m * u ≡ 0 → m ≡ 0
+first_zero m u U z = elim (eq-zero-or-pos m) [ inl e ↦ e | inr p ↦ absurd (lt_irrefl 0 (subst (λ (k : ℕ). 0 < k) z (mul-pos p U))) ]
 
-one_sign : (a b : ℕ) → at_most_by (ltb a b) (eqb a b && true) (ltb b a) ≡ leb a b
-one_sign a b = grind (arith, nat_tests)
+times_zero : (m u : ℕ) → m ≡ 0 → m * u ≡ 0
+times_zero m u z = ap (λ (k : ℕ). k * u) z ∙ zero-mul u
 
-downwards : (a b : ℕ) → a ≡ 0 → at_most_by false (eqb a b && eqb a 0) (ltb 0 (b + a)) ≡ eqb b 0
-downwards a b z = grind (arith, nat_tests)
+-- x differs from itself, is less than 0, or is greater than 100: it is out of range. `omega` takes m * up e and down e as unknowns
+nan_out : (x : Float) → ne x x ≡ true → in_range x ≡ false
+unfolding in_range
+nan_out x h = ap in_range (differs_from_itself x (subst T (sym h) tt))
 
-upwards : (a b : ℕ) → at_most_by (ltb 0 (a + b)) (eqb a b && eqb a 0) false ≡ true
-upwards a b = grind (arith, nat_tests)
+below_out : (x : Float) → lt x nought ≡ true → in_range x ≡ false
+unfolding in_range lt
+below_out nan h = refl
+below_out (inf s) h = refl
+below_out (fin false m e) h = let None : ⊥ = omega (arith, ltb-true (m * up e * 1) (0 * down e) h) in absurd None
+below_out (fin true m e) h =
+    let Some : m ≡ 0 → ⊥ = λ z. omega (arith, times_zero m (up e) z, ltb-true 0 (m * up e * 1 + 0 * down e) h) in
+    ap (λ (k : Bool). k && leb (m * up e) (100 * down e)) (ne_eqb m 0 Some)
 
--- below zero only minus zero is in range
-minus_zero : (m u d : ℕ) → 0 < u → (eqb (m * u * 1) 0 && true) ≡ (eqb m 0 && leb (m * u) d)
-minus_zero zero u d U = let z : 0 * u ≡ 0 = zero-mul u in grind (arith, nat_tests)
-minus_zero (suc m) u d U = let p : 0 < suc m * u = mul-pos (omega arith) U in grind (arith, nat_tests)
+above_out : (x : Float) → lt hundred x ≡ true → in_range x ≡ false
+unfolding in_range lt
+above_out nan h = refl
+above_out (inf s) h = refl
+above_out (fin false m e) h = lt-leb (m * up e) (100 * down e) (omega (arith, ltb-true (100 * down e) (m * up e * 1) h))
+above_out (fin true m e) h = absurd (true≢false (sym h))
 
--- x lies in 0..=100 by the comparisons exactly where it is in range. `omega` takes m * up e and down e as unknowns
-compared : (x : Float) → (partial_le float_partial_cmp nought x && partial_le float_partial_cmp x hundred) ≡ in_range x
-unfolding in_range lt eq
-compared nan = refl
-compared (inf true) = refl
-compared (inf false) = refl
-compared (fin false m e) =
-    ap₂ ◌&&◌ (one_sign (0 * 1 * down e) (m * up e * 1) ∙ le-leb (0 * 1 * down e) (m * up e * 1) (omega arith)) (one_sign (m * up e * 1) (100 * down e))
-    ∙ ap (λ (k : ℕ). leb k (100 * down e)) (omega arith)
-compared (fin true m e) =
-    ap₂ ◌&&◌ (downwards (0 * 1 * down e) (m * up e * 1) (omega arith)) (upwards (m * up e * 1) (100 * down e))
-    ∙ minus_zero m (up e) (100 * down e) (up_pos e)
+-- none of the three: it is in range
+passed : (x : Float) → ne x x ≡ false → lt x nought ≡ false → lt hundred x ≡ false → in_range x ≡ true
+unfolding in_range lt ne
+passed nan a b c = absurd (true≢false a)
+passed (inf true) a b c = absurd (true≢false b)
+passed (inf false) a b c = absurd (true≢false c)
+passed (fin false m e) a b c = le-leb (m * up e) (100 * down e) (omega (arith, ltb-false (100 * down e) (m * up e * 1) c))
+passed (fin true m e) a b c =
+    let z : m * up e ≡ 0 = omega (arith, ltb-false 0 (m * up e * 1 + 0 * down e) b) in
+    ap (λ (k : Bool). k && leb (m * up e) (100 * down e)) (eq-eqb m 0 (first_zero m (up e) (up_pos e) z))
+    ∙ le-leb (m * up e) (100 * down e) (omega arith)
 
--- what `contains` answers of the range 0.0..=100.0
-pub contained : (x : Float) {r spent : Bool} {start last : Float}
-    → r ≡ (partial_le float_partial_cmp start x && cond spent (partial_lt float_partial_cmp x last) (partial_le float_partial_cmp x last))
-    → start ≡ of_bits binary32 0 → last ≡ of_bits binary32 0x42c8_0000 → spent ≡ false → r ≡ in_range x
-contained x {last} is a b s =
-    is
-    ∙ (λ i. partial_le float_partial_cmp (a i) x && cond (s i) (partial_lt float_partial_cmp x last) (partial_le float_partial_cmp x (b i)))
-    ∙ (λ i. partial_le float_partial_cmp (nought_is i) x && partial_le float_partial_cmp x (hundred_is i))
-    ∙ compared x
+pub refused_nan : (x : Float) → ne x x ≡ true → None ≡ answer_of x
+refused_nan x h = sym (answer_out x (nan_out x h))
 
-pub nan_out : (x : Float) → is_nan x ≡ true → None ≡ answer_of x
-unfolding is_nan answer_of in_range
-nan_out nan h = refl
-nan_out (inf s) h = absurd (true≢false (sym h))
-nan_out (fin s m e) h = absurd (true≢false (sym h))
+pub refused_below : (x : Float) → lt x (of_bits binary32 0) ≡ true → None ≡ answer_of x
+refused_below x h = sym (answer_out x (below_out x (subst (λ (k : Float). lt x k ≡ true) nought_is h)))
+
+pub refused_above : (x : Float) → lt (of_bits binary32 0x42c8_0000) x ≡ true → None ≡ answer_of x
+refused_above x h = sym (answer_out x (above_out x (subst (λ (k : Float). lt k x ≡ true) hundred_is h)))
+
+pub in_range_lem : (x : Float) → ne x x ≡ false → lt x (of_bits binary32 0) ≡ false → lt (of_bits binary32 0x42c8_0000) x ≡ false → T (in_range x)
+in_range_lem x a b c = subst T (sym (passed x a (subst (λ (k : Float). lt x k ≡ false) nought_is b) (subst (λ (k : Float). lt k x ≡ false) hundred_is c))) tt
 
 -- ---- the masks
 
@@ -109,22 +114,31 @@ field_small j t h =
     go : 23 + j < 156 → j < 133
     go k = omega arith
 
-module _ (x : Float) (b : ℕ) (bits : b ≡ to_bits binary32 x) (F : fits binary32 x ≡ true) (R : in_range x ≡ true) where
+module _ (x : Float) (F : T (fits binary32 x)) (R : T (in_range x)) where
+  abbrev b : ℕ
+  b = to_bits binary32 x
+
   abbrev exponent : ℕ
   exponent = bit_and (b / 2 ^ 23) 0xff
 
   abbrev fraction : ℕ
   fraction = bit_and b 0x7f_ffff
 
-  ranged : T (in_range x)
-  ranged = subst T (sym R) tt
+  pub no_nan : T (not (is_nan x))
+  unfolding is_nan in_range
+  no_nan = go x R
+    where
+      go : (y : Float) → T (in_range y) → T (not (is_nan y))
+      go nan h = absurd h
+      go (inf s) h = absurd h
+      go (fin s m e) h = tt
 
   -- the size in units, by what the masks give
   units : units_of x ≡ field_units exponent fraction
   units =
-      units_by_fields x (subst T (sym F) tt) (range_finite x ranged)
-      ∙ ap (λ (n : ℕ). field_units (n % 2 ^ 31 / 2 ^ 23) (n % 2 ^ 23)) (sym bits)
-      ∙ ap₂ field_units (sym (exponent_is b)) (sym (fraction_is b))
+      units_by_fields x F (range_finite x R)
+      ∙ ap (λ (k : ℕ). field_units k (b % 2 ^ 23)) (sym (exponent_is b))
+      ∙ ap (λ (k : ℕ). field_units exponent k) (sym (fraction_is b))
 
   reading_is : reading_of x ≡ (200 * field_units exponent fraction + unit) / (2 * unit)
   unfolding reading_of
@@ -134,7 +148,7 @@ module _ (x : Float) (b : ℕ) (bits : b ≡ to_bits binary32 x) (F : fits binar
   field_lt : (k : ℕ) → exponent ≡ k → (k ≡ 0 → ⊥) → k ≤ 133
   unfolding field_units
   field_lt zero e n = absurd (n refl)
-  field_lt (suc j) e n = field_small j fraction (le_trans (le_of_eq (sym (units ∙ ap (λ (k : ℕ). field_units k fraction) e))) (range_units x ranged))
+  field_lt (suc j) e n = field_small j fraction (le_trans (le_of_eq (sym (units ∙ ap (λ (k : ℕ). field_units k fraction) e))) (range_units x R))
 
   pub exponent_le : (exponent ≡ 0 → ⊥) → exponent ≤ 133
   exponent_le n = field_lt exponent refl n
@@ -166,4 +180,4 @@ module _ (x : Float) (b : ℕ) (bits : b ≡ to_bits binary32 x) (F : fits binar
       one t = omega arith
 
   pub answer : (r : ℕ) → reading_of x ≡ r → Some r ≡ answer_of x
-  answer r e = sym (answer_in x R ∙ ap Some e)
+  answer r e = sym (answer_in x (is_true (in_range x) R) ∙ ap Some e)

@@ -19,7 +19,7 @@ const NO_LIMITS: Limits = Limits {
     check: 0,
 };
 
-// A row: samples a sheet, the standard basis A, and the limits of each line. Outside it is a number, as C hands it in and the places hold it: an enum would ask more of who calls what stands below.
+// A row: samples a sheet, the standard basis A, and the limits of each line. Outside it is a number, as C hands it in and the places hold it, and what stands below takes any: an unsound station may hold any.
 #[derive(Clone, Copy)]
 struct Row {
     samples: u32,

@@ -14,7 +14,7 @@ use station_rules::{Refusal, SAMPLE_NUMBERS, Sample, Set};
 
 // A sample's deviation joins S, and 2 joins N; one that still deviates is dropped. An again pair that is missing or needless is number 7.
 fn add_sample(terms: Terms, t: Set, s: Sample) -> Result<Set, Refusal>
-    requires fair { Measured s }
+    requires measured { Measured s }
     requires within { (Within 25000000 25000000 t.sum) × (t.count ≤ 2000) }
     ensures { result ≡ added terms.limits terms.intercept t s }
 {

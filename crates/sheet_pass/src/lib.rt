@@ -35,15 +35,22 @@ pub struct Found {
 }
 
 // The span with one deviation more: a sample that doesn't deviate widens it too.
-#[tactic(auto, using(crate::proofs::BoundLaws::spans))]
+#[tactic(auto, using(crate::proofs::BoundLaws::spans, whole::proofs::Tests::or_true))]
 fn widened(limits: Limits, s: Span, d: i32) -> Span
     requires { limits.sample ≤ 1000 }
     ensures { result ≡ widened limits s d }
 {
-    Span {
-        deviating: s.deviating || sheet_sample::is_deviating(limits, d),
+    let wider = Span {
         high: s.high.max(d),
         low: s.low.min(d),
+        ..s
+    };
+    if !sheet_sample::is_deviating(limits, d) {
+        return wider;
+    }
+    Span {
+        deviating: true,
+        ..wider
     }
 }
 

@@ -86,6 +86,7 @@ pub fn repair(state: &mut [i32], day: u32) -> Result<(), Refusal>
     if station_soundness::is_bad_day(station_places::day_of(state), day) {
         return Err(Refusal::BadDay);
     }
+    // one by one: a loop of three would need an invariant over the places
     station_places::repair_line(state, 0);
     station_places::repair_line(state, 1);
     station_places::repair_line(state, 2);

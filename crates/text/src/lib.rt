@@ -20,6 +20,7 @@ fn write_sets(text: &[u8], out: &mut [u8], start: usize) -> usize
     let mut p = Progress::begin(start);
     for read in text_lines::value_lines(text) {
         let Some(v) = read else {
+            // never: a good text has no such line
             return start;
         };
         p.take_line(v, out);

@@ -86,6 +86,7 @@ impl Progress {
         }
         match chart::chart_set_at(&mut self.chart, set.week, set.held(), out, self.end) {
             Ok(charted) => self.end += charted.length,
+            // where the text is good, never: its sets are charted
             Err(_) => {}
         }
     }

@@ -8,7 +8,7 @@ ghost use Rattle.chart_rules.specs.TextLines.{digits, number_at};
 // The least number of five digits, behind which a sixth is bad.
 const FIVE_DIGITS: u32 = 10000;
 
-// The digits from position at on, after those that made first.
+// The digits from position at on, after those that made first. An index, since the position behind them is answered.
 #[tactic(auto, using(chart_rules::proofs::Numbers::digits_steps))]
 fn digits_at(text: &[u8], at: usize, first: u32) -> Option<(u32, usize)>
     requires { (first < 100000) × (at ≤ length text.now) }

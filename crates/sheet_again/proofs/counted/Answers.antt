@@ -21,8 +21,8 @@ loop-part-init c =
       counting = counting_start t.limits t.intercept t.fair c.args.numbers.now (ap chunks_exact_rest same ∙ items.rest) c.requires.0 c.requires.1;
     }
 
-pub add_sample-requires-clause-fair : goal.add_sample-requires-clause-fair
-add_sample-requires-clause-fair c =
+pub add_sample-requires-clause-measured : goal.add_sample-requires-clause-measured
+add_sample-requires-clause-measured c =
     let t = c.args.terms in
     let l = c.loop-part in
     let step = c.in-Some.ensures.steps in
