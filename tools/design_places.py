@@ -39,16 +39,16 @@ def answer_enums():
 
 
 def functions():
-    """Each function: its place, its name, its parameters and result, its clauses, its body."""
+    """Each function: its place, its name, its parameters and result, its requires, its body."""
     for f, s in TEXTS.items():
         for m in re.finditer(r'^( *)(?:pub(?:\(crate\))? )?(?:extern "C" )?fn (\w+)[^\n]*?\(', s, re.M):
             end = s.find("\n" + m.group(1) + "}\n", m.start())
             text = s[m.start() : end + len(m.group(1)) + 2]
             start = text.find("\n" + m.group(1) + "{\n")
             head, body = (text[:start], text[start:]) if start >= 0 else (text.split("{\n", 1) + [""])[:2]
-            clauses = re.findall(r"^ *(?:requires|ensures)[^{]*\{(.*)\}$", head, re.M)
+            asked = re.findall(r"^ *requires[^{]*\{(.*)\}$", head, re.M)
             signature = re.split(r"\n *(?:requires|ensures)\b", head)[0]
-            yield f"{f}:{s.count(chr(10), 0, m.start()) + 1}", m.group(2), " ".join(signature.split()), clauses, body
+            yield f"{f}:{s.count(chr(10), 0, m.start()) + 1}", m.group(2), " ".join(signature.split()), asked, body
 
 
 KEPT = set("fn let mut if else match while for in return pub struct as true false self Some None Ok Err const".split())
@@ -84,15 +84,10 @@ def twin_types():
 def repeated_facts():
     """A part of a requires that stands in three functions or more."""
     where = {}
-    for place, name, signature, _, _ in functions():
-        f = place.rsplit(":", 1)[0]
-        head = TEXTS[f]
-        at = head.find("fn " + name)
-        text = head[at : head.find("\n{", at)]
-        for clause in re.findall(r"^ *requires[^{]*\{(.*)\}$", text, re.M):
-            for part in re.split(r"×", clause):
-                part = re.sub(r"[()]", " ", part)
-                where.setdefault(" ".join(part.split()), set()).add(place)
+    for place, _, _, asked, _ in functions():
+        for clause in asked:
+            for part in clause.split("×"):
+                where.setdefault(" ".join(re.sub(r"[()]", " ", part).split()), set()).add(place)
     return [(sorted(v)[0], f"{k} ({len(v)} functions)") for k, v in sorted(where.items()) if len(v) > 2]
 
 

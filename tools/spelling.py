@@ -20,7 +20,7 @@ IMPORT = re.compile(r"^\s*(?:pub\s+)?(?:ghost\s+)?use\s+([^\s{;]+?)(?:\.\{(.*)\}
 
 
 # lemmas whose spelling was free until a function came to have it: file -> name
-TAKEN = {"crates/whole/proofs/PartLaws.antt": "sub_parts", "crates/chart_rules/proofs/RoundTrip.antt": "is_digit"}
+TAKEN = {"crates/chart_rules/proofs/RoundTrip.antt": "is_digit"}
 
 
 def snake(name):

@@ -1,4 +1,4 @@
-// The exported functions of the calendar.
+// The exported functions of the calendar. Year, month and day, and a day, a count and the holidays, are parameters of their own: so the C interface takes them.
 ghost use Rattle.std.specs.Prelude.{◌≡◌};
 ghost use Rattle.calendar_rules.specs.Dates.{date};
 ghost use Rattle.calendar_rules.specs.Calls.{day_of, date_of, weekday_of, working_day, results_due};

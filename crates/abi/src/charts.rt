@@ -1,4 +1,4 @@
-// The exported functions of charts.
+// The exported functions of charts. Places, week and numbers, and text and buffer, are parameters of their own, and a row is a number: so the C interface takes them.
 ghost use Rattle.std.specs.Prelude.{◌≡◌};
 ghost use Rattle.abi_chart.specs.ChartAnswers.{chart_open_call, chart_set_call, chart_text_call};
 

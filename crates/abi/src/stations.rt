@@ -1,4 +1,4 @@
-// The exported functions of readings and stations.
+// The exported functions of readings and stations. Places, day, line and numbers are parameters of their own, and rows and kinds are numbers: so the C interface takes them.
 ghost use Rattle.std.specs.Prelude.{◌≡◌};
 ghost use Rattle.reading.specs.Reading.{answer_of};
 ghost use Rattle.abi_station.specs.StationAnswers.{scan_of, asked_of, basis_for, reading_given, open_call, sheet_call, repair_call, market_call};

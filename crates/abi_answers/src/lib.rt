@@ -1,4 +1,4 @@
-// What an exported call that has no values hands back.
+// What an exported call that has no values hands back: C has no `Result`, so accepted and number stand in a small struct.
 
 #![tactic(auto)]
 

@@ -1,5 +1,5 @@
 -- The lengths that the answers carry, for any call: a line has at most 40 bytes, a text's output at most 400000.
-use mathlib.Core.Path.{◌≡◌, refl, subst}
+use mathlib.Core.Path.{◌≡◌, refl}
 use mathlib.Core.List.{List}
 use Prim.Native.Nat.{ℕ, ◌≤◌}
 use native.Mathlib.Omega.{arith}
@@ -7,14 +7,12 @@ use lib.IntN.{ℤ}
 use lib.ListN.{length}
 use Rattle.std.specs.Prelude.{Result, Ok, Err}
 use Rattle.chart_rules.specs.Places.{chart_at}
-use Rattle.chart_rules.specs.Lines.{line_of}
 use Rattle.chart_rules.specs.Calls.{result_of, bytes_of, chart_set_of}
 use Rattle.chart_rules.specs.InPlace.{chart_set_in}
 use Rattle.chart_rules.specs.declared.Refusal.{Refusal}
 use Rattle.chart_rules.specs.declared.Charted.{Charted}
 use Rattle.chart_rules.proofs.Results.{charted_short}
 use Rattle.chart_rules.specs.Output.{answer_of, chart_text_of}
-use Rattle.std.specs.Prelude.{Result, Ok, Err}
 use Rattle.chart_rules.specs.declared.RefusedText.{RefusedText}
 use Rattle.chart_rules.proofs.GoodTexts.{program_fits}
 use Rattle.abi_chart.specs.ChartAnswers.{line_length, text_length}

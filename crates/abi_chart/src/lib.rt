@@ -1,4 +1,4 @@
-// What the exported chart functions hand back: small structs of 32-bit numbers.
+// What the exported chart functions hand back: C has no `Result`, so these are small structs of 32-bit numbers.
 
 #![tactic(auto)]
 

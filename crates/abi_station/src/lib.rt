@@ -1,4 +1,4 @@
-// What the exported station functions are asked and hand back: kinds by their numbers, and small structs of 32-bit numbers.
+// What the exported station functions are asked and hand back: kinds by their numbers, and, since C has no `Result`, small structs of 32-bit numbers, each with values of its own, so that each has its From.
 
 #![tactic(auto)]
 

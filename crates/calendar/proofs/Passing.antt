@@ -2,7 +2,7 @@
 use mathlib.Core.Path.{◌≡◌, refl, sym, ap, ◌∙◌, subst}
 use mathlib.Core.Bool.{Bool, false, not, ◌&&◌, cond}
 use mathlib.Core.List.{List, [], ◌∷◌, ◌++◌}
-use Prim.Native.Nat.{ℕ, suc, ◌+◌, ◌-◌, ◌*◌, ◌%◌, ◌≤◌, ◌<◌}
+use Prim.Native.Nat.{ℕ, suc, ◌+◌, ◌-◌, ◌*◌, ◌≤◌, ◌<◌}
 use native.Mathlib.Numerals.{add-one}
 use native.Mathlib.Omega.{arith}
 use lib.Dec.{eqb, leb, ltb}
@@ -11,13 +11,11 @@ use lib.ListN.{length, get_or, take, drop, drop_of_length-le}
 use lib.Seq.{drop-cons, take-suc, take_all}
 use borrow.Author.Tests.{ltb-true, ltb-false, le-leb, eqb-true, eqb-false}
 use Rattle.std.specs.Prelude.{Ok, Err}
-use mir.Syntax.{w32}
-use mir.Val.{SFits, to_z, of_z}
-use mir.ValLaws.{to_z-of_z}
 use Rattle.whole.specs.Places.{natural}
+use Rattle.std.proofs.lemmas.Bool.Decides.{nat_tests}
 use Rattle.whole.proofs.ListLaws.{by_test}
 use Rattle.whole.proofs.Tests.{and2}
-use Rattle.calendar_rules.specs.Working.{monday_to_friday, is_working, counted}
+use Rattle.calendar_rules.specs.Working.{is_working, counted}
 use Rattle.calendar_rules.specs.Calls.{bad_holidays, working_day}
 use Rattle.calendar_rules.specs.Counting.{good_from}
 use Rattle.calendar_rules.specs.Laws.{up_to, WorkingDaysAfter}
@@ -29,14 +27,6 @@ use Rattle.calendar_working.specs.Passes.{next_of, passed_of}
 use Rattle.calendar_working.proofs.WeekLaws.{none_listed}
 use Rattle.calendar_working.proofs.PassLaws.{Plain, plain_on, passes_over}
 use Rattle.calendar.specs.Ends.{within_last}
-
--- the holiday that is read
-pub read : (z : ℤ) (h : ℕ) → h ≡ of_z w32 (to_z w32 (of_z w32 z)) → SFits w32 z → h ≡ natural z
-read z h e f = e ∙ ap (of_z w32) (to_z-of_z w32 z f) ∙ bits z f
-  where
-    bits : (z : ℤ) → SFits w32 z → of_z w32 z ≡ natural z
-    bits (pos n) f = refl
-    bits (negsuc n) f = omega (arith, f.sfits)
 
 module _ (hs : List ℤ) (day count : ℕ) where
   -- i holidays are passed: they are good, the next may be no earlier than `least`, and by them this day is found
@@ -62,11 +52,11 @@ module _ (hs : List ℤ) (day count : ℕ) where
 
   next_of_near : (d : ℕ) → next_of d ≤ d + 3
   unfolding next_of
-  next_of_near d = by_test (eqb ((d + 5) % 7) 4) (λ (t : Bool). cond t (d + 3) (d + 1) ≤ d + 3) (λ e. omega arith) (λ e. omega arith)
+  next_of_near d = grind (arith, nat_tests)
 
   passed_near : (h d : ℕ) → passed_of day h d ≤ d + 3
   unfolding passed_of
-  passed_near h d = by_test (ltb day h && leb h d && monday_to_friday h) (λ (t : Bool). cond t (next_of d) d ≤ d + 3) (λ e. next_of_near d) (λ e. omega arith)
+  passed_near h d = grind (arith, nat_tests, next_of_near d)
 
   module _ {i found least h : ℕ} (g : Passing i found least) (inside : i < length hs) (read : h ≡ natural (get_or hs i (pos 0))) where
     abbrev rest : List ℤ

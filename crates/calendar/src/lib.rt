@@ -1,30 +1,22 @@
 // The calendar's calls: dates and days, weekdays, working days, and when monitoring results are due. Each ends in bounded time: dates by arithmetic, working
 // days in one pass over the holidays, which stops at the first that is bad; 100000 of them at most are good.
+// A day, a count and the holidays are parameters of their own, as C hands them over: a struct of them would be put together only to be taken apart.
 
 #![tactic(auto)]
 
-ghost use Rattle.std.specs.Prelude.{◌≡◌, ◌≤◌, ◌<◌, MatchResult};
-ghost use Rattle.calendar_rules.specs.declared.Refusal.TheVariants.{NoSuchDay};
+ghost use Rattle.std.specs.Prelude.{◌≡◌};
 ghost use Rattle.calendar_rules.specs.Weekdays.{weekday_on};
 ghost use Rattle.calendar_rules.specs.Calls.{day_of, date_of, weekday_of, working_day, results_due};
 ghost use Rattle.calendar_rules.specs.Counting.{is_date};
 ghost use Rattle.calendar.specs.Ends.{within_last};
 
+use calendar_dates::Year;
 use calendar_rules::{
-    DUE_DAYS, Date, FIRST_YEAR, LAST_DAY, LAST_YEAR, MONTHS, Refusal, SINCE_MONDAY, WEEK, Weekday,
+    DUE_DAYS, Date, Day, FIRST_YEAR, LAST_DAY, LAST_YEAR, MONTHS, Refusal, SINCE_MONDAY, WEEK,
+    Weekday,
 };
 
 // ---- dates and days
-
-// The day of this number, if there is one.
-fn existing_day(day: u32) -> Result<u32, Refusal>
-    ensures { MatchResult result (λ d. (d ≡ day) × (d ≤ 99999)) (λ r. (r ≡ NoSuchDay) × (99999 < day)) }
-{
-    if LAST_DAY < day {
-        return Err(Refusal::NoSuchDay);
-    }
-    Ok(day)
-}
 
 // A date of the years 2000 to 2273.
 #[tactic(auto, unfolding(calendar_rules::specs::Counting::is_date))]
@@ -33,7 +25,7 @@ fn is_date(d: Date) -> bool
 {
     (FIRST_YEAR..=LAST_YEAR).contains(&d.year)
         && (1..=MONTHS).contains(&d.month)
-        && (1..=calendar_dates::month_length(d.year, d.month)).contains(&d.day)
+        && (1..=Year::from(d.year).month_length(d.month)).contains(&d.day)
 }
 
 // The day of a date.
@@ -44,7 +36,7 @@ pub fn day_from_date(date: Date) -> Result<u32, Refusal>
     if !is_date(date) {
         return Err(Refusal::NoSuchDay);
     }
-    existing_day(calendar_dates::day_number(date))
+    Ok(Day::try_from(calendar_dates::day_number(date))?.number)
 }
 
 // The date of a day.
@@ -52,18 +44,17 @@ pub fn day_from_date(date: Date) -> Result<u32, Refusal>
 pub fn date_from_day(day: u32) -> Result<Date, Refusal>
     ensures { result ≡ date_of day }
 {
-    let day = existing_day(day)?;
+    let day = Day::try_from(day)?;
     Ok(calendar_dates::date_on(day))
 }
 
 // ---- weekdays
 
 // Day 0 is a Saturday. A match, not a TryFrom: the remainder is always one of the seven.
-fn weekday_on(day: u32) -> Weekday
-    requires { day ≤ 99999 }
-    ensures { result ≡ weekday_on day }
+fn weekday_on(day: Day) -> Weekday
+    ensures { result ≡ weekday_on day.number }
 {
-    match (day + SINCE_MONDAY) % WEEK {
+    match (day.number + SINCE_MONDAY) % WEEK {
         0 => Weekday::Monday,
         1 => Weekday::Tuesday,
         2 => Weekday::Wednesday,
@@ -79,7 +70,7 @@ fn weekday_on(day: u32) -> Weekday
 pub fn weekday(day: u32) -> Result<Weekday, Refusal>
     ensures { result ≡ weekday_of day }
 {
-    let day = existing_day(day)?;
+    let day = Day::try_from(day)?;
     Ok(weekday_on(day))
 }
 
@@ -87,11 +78,11 @@ pub fn weekday(day: u32) -> Result<Weekday, Refusal>
 
 // The day found, unless it is past the last; a count of 0 gives the day itself.
 #[tactic(auto, unfolding(crate::specs::Ends::within_last))]
-fn within_last(day: u32, count: u32, found: u64) -> Result<u32, Refusal>
-    ensures { result ≡ within_last day count found }
+fn within_last(day: Day, count: u32, found: u64) -> Result<u32, Refusal>
+    ensures { result ≡ within_last day.number count found }
 {
     if count == 0 {
-        return Ok(day);
+        return Ok(day.number);
     }
     if u64::from(LAST_DAY) < found {
         return Err(Refusal::NoSuchDay);
@@ -104,22 +95,23 @@ fn within_last(day: u32, count: u32, found: u64) -> Result<u32, Refusal>
 pub fn working_day(day: u32, count: u32, holidays: &[i32]) -> Result<u32, Refusal>
     ensures { result ≡ working_day day count holidays.now }
 {
-    let start = existing_day(day)?;
+    let start = Day::try_from(day)?;
     let mut found = calendar_working::without_holidays(start, count);
     let mut least = 0;
     for holiday in holidays {
-        // a negative one is past the last day then
+        // a negative one is past the last day then; one test of both bounds, since by Day's try_from each took two instructions more
         let holiday = holiday.cast_unsigned();
         if !(least..=LAST_DAY).contains(&holiday) {
             return Err(Refusal::BadHolidays);
         }
-        found = calendar_working::passed(start, holiday, found);
+        found = calendar_working::passed(start.number, Day { number: holiday }, found);
         least = holiday + 1;
     }
     within_last(start, count, found)
 }
 
 // The day by which monitoring results are due at the service point, from the day of retrieval.
+#[tactic(auto, unfolding(calendar_rules::specs::Calls::results_due))]
 pub fn results_due(day: u32, holidays: &[i32]) -> Result<u32, Refusal>
     ensures { result ≡ results_due day holidays.now }
 {

@@ -1,11 +1,10 @@
 -- The month of a day of a year: by 31 up to the end of February, by the mean length of a month after it.
-use mathlib.Core.Path.{◌≡◌, refl, subst}
+use mathlib.Core.Path.{◌≡◌, refl}
 use mathlib.Core.Bool.{Bool, true, false, cond}
 use Prim.Native.Nat.{ℕ, suc, ◌+◌, ◌-◌, ◌*◌, ◌/◌, ◌≤◌, ◌<◌}
 use native.Mathlib.Omega.{arith}
-use lib.Dec.{leb, ltb}
-use borrow.Author.Tests.{ltb-true, ltb-false, lt-leb}
-use Rattle.whole.proofs.ListLaws.{by_test}
+use borrow.Author.Tests.{lt-leb}
+use Rattle.std.proofs.lemmas.Bool.Decides.{nat_tests}
 use Rattle.calendar_rules.specs.Counting.{lacking, month_start}
 use Rattle.calendar_dates.specs.Parts.{InMonth}
 
@@ -13,20 +12,8 @@ use Rattle.calendar_dates.specs.Parts.{InMonth}
 pub january : (leap : Bool) (rest : ℕ) → rest < month_start leap 3 → InMonth leap rest (rest / 31 + 1)
 unfolding month_start
 january leap rest h =
-    by_test (ltb rest 31) (λ (t : Bool). InMonth leap rest (rest / 31 + 1))
-    (λ e.
-    let l = ltb-true rest 31 e in
-    let m : 1 ≡ rest / 31 + 1 = omega arith in
-    subst (InMonth leap rest) m (record { from = omega arith; up_to = omega arith; begins = omega arith; ends = omega arith }))
-    (λ e.
-    let l = ltb-false rest 31 e in
-    let s : rest < 62 = short leap h in
-    let m : 2 ≡ rest / 31 + 1 = omega arith in
-    subst (InMonth leap rest) m (record { from = omega arith; up_to = omega arith; begins = omega arith; ends = h }))
-  where
-    short : (leap : Bool) → rest < month_start leap 3 → rest < 62
-    short true h = omega arith
-    short false h = omega arith
+    let s : rest < 62 = grind (arith, nat_tests) in
+    record { from = omega arith; up_to = omega arith; begins = grind (arith, nat_tests); ends = grind (arith, nat_tests) }
 
 -- the months from March on
 march_start : (leap : Bool) → (month_start leap 3 + cond leap 1 2 ≡ 61) × (month_start leap 13 + cond leap 1 2 ≡ 367)
@@ -59,7 +46,7 @@ month_small leap m h = omega arith
 
 -- the numbers of the code are small
 pub lacks_little : (leap : Bool) (m : ℕ) → lacking leap m ≤ 2
-lacks_little leap m = by_test (leb m 2) (λ (t : Bool). cond t 0 (cond leap 1 2) ≤ 2) (λ e. omega arith) (λ e. small leap)
+lacks_little leap m = grind (arith, nat_tests, small leap)
 
 pub year_small : (leap : Bool) → month_start leap 13 ≤ 366
 year_small leap = omega (arith, (march_start leap).1, small leap, least leap)

@@ -1,13 +1,12 @@
 -- The days of dates: which date has which day, and that no other has one; the calendar's theorem.
 use mathlib.Core.Path.{◌≡◌, refl, sym, ap, ◌∙◌, subst}
-use mathlib.Core.Bool.{Bool, true, ◌&&◌, cond, true≢false}
+use mathlib.Core.Bool.{Bool, true, cond, true≢false}
 use Prim.Native.Nat.{ℕ, zero, suc, ◌+◌, ◌≤◌, ◌<◌}
 use native.Mathlib.Omega.{arith}
-use lib.Dec.{eqb, ltb}
-use borrow.Author.Tests.{eqb-true, eq-eqb, ltb-true, ltb-false, lt-ltb, le-ltb}
+use borrow.Author.Tests.{lt-ltb, le-ltb}
 use Rattle.std.specs.Prelude.{Result, Ok, Err}
+use Rattle.std.proofs.lemmas.Bool.Decides.{nat_tests}
 use Rattle.whole.proofs.ListLaws.{by_test}
-use Rattle.whole.proofs.Tests.{and_both}
 use Rattle.calendar_rules.specs.Dates.{date, leap_year, month_length, date_on}
 use Rattle.calendar_rules.specs.Calls.{same_date, first_with, day_of, date_of, day_says, date_says}
 use Rattle.calendar_rules.specs.Counting.{year_start, month_start, day_number}
@@ -21,15 +20,13 @@ use Rattle.calendar_rules.proofs.Succession.{dated, later_larger, same_written, 
 
 same_yes : (d e : Date) → same_date d e ≡ true → d ≡ e
 same_yes d e t =
-    let both = and_both (eqb d.year e.year && eqb d.month e.month) (eqb d.day e.day) t in
-    let ym = and_both (eqb d.year e.year) (eqb d.month e.month) both.0 in
-    let y = eqb-true d.year e.year ym.0 in
-    let m = eqb-true d.month e.month ym.1 in
-    let k = eqb-true d.day e.day both.1 in
+    let y : d.year ≡ e.year = grind (arith, nat_tests) in
+    let m : d.month ≡ e.month = grind (arith, nat_tests) in
+    let k : d.day ≡ e.day = grind (arith, nat_tests) in
     λ i. record { year = y i; month = m i; day = k i }
 
 same_own : (d : Date) → same_date d d ≡ true
-same_own d = λ i. eq-eqb d.year d.year refl i && eq-eqb d.month d.month refl i && eq-eqb d.day d.day refl i
+same_own d = grind (arith, nat_tests)
 
 -- ---- the first day that has a date
 
@@ -78,19 +75,13 @@ pub in_by_number : (d : Date) → Valid d → day_number d ≤ 99999 → InCalen
 in_by_number d v l =
     record {
       valid = v;
-      last =
-          by_test (ltb (written last_date) (written d)) (λ (t : Bool). written d ≤ 22731015)
-          (λ f. absurd (omega (arith, later_larger last_date d last_valid v (ltb-true _ _ f), last_number)))
-          (λ f. omega (arith, ltb-false (written last_date) (written d) f, last_written));
+      last = grind (arith, later_larger last_date d last_valid v, last_number, last_written);
     }
 
 pub number_in : (d : Date) → InCalendar d → day_number d ≤ 99999
 number_in d c =
-    by_test (ltb (written d) (written last_date)) (λ (t : Bool). day_number d ≤ 99999)
-    (λ f. omega (arith, later_larger d last_date c.valid last_valid (ltb-true _ _ f), last_number))
-    (λ f.
-    let same : written d ≡ written last_date = omega (arith, ltb-false (written d) (written last_date) f, c.last, last_written) in
-    omega (arith, ap day_number (same_written d last_date c.valid last_valid same), last_number))
+    let same : written d ≡ written last_date → day_number d ≡ day_number last_date = λ e. ap day_number (same_written d last_date c.valid last_valid e) in
+    grind (arith, later_larger d last_date c.valid last_valid, c.last, last_number, last_written)
 
 -- such a date has its number for its day
 pub a_day : (d : Date) → InCalendar d → day_of d ≡ Ok (day_number d)

@@ -4,14 +4,14 @@ use mathlib.Core.Bool.{Bool, true, false, not, ◌&&◌, ◌||◌}
 use mathlib.Core.List.{List, [], ◌∷◌}
 use Prim.Native.Nat.{ℕ, suc, ◌+◌, ◌≤◌}
 use native.Mathlib.Omega.{arith}
-use lib.Dec.{leb, ltb, leb-zero, leb-suc-zero}
+use lib.Dec.{leb, leb-zero}
 use lib.IntN.{ℤ, pos, negsuc}
 use lib.ListN.{length}
-use borrow.Author.Tests.{leb-true, leb-false, lt-leb, lt-ltb, le-ltb, not-false}
+use borrow.Author.Tests.{lt-leb, not-false}
+use Rattle.std.proofs.lemmas.Bool.Decides.{nat_tests}
 use Rattle.whole.specs.Lists.{any}
 use Rattle.whole.specs.Places.{natural}
-use Rattle.whole.proofs.ListLaws.{by_test}
-use Rattle.whole.proofs.Tests.{and_both, or_true}
+use Rattle.whole.proofs.Tests.{or_true}
 use Rattle.calendar_rules.specs.Calls.{rising, outside, bad_holidays}
 use Rattle.calendar_rules.specs.Counting.{good_from}
 
@@ -41,10 +41,7 @@ negative : (m : ℕ) → leb (natural (negsuc m)) 99999 ≡ false
 negative m = lt-leb (natural (negsuc m)) 99999 (omega arith)
 
 outside_is : (n : ℕ) → outside (pos n) ≡ not (leb n 99999)
-outside_is n =
-    by_test (leb n 99999) (λ (t : Bool). ltb n 0 || ltb 99999 n ≡ not t)
-    (λ e i. leb-suc-zero n i || le-ltb 99999 n (leb-true n 99999 e) i)
-    (λ e i. leb-suc-zero n i || lt-ltb 99999 n (leb-false n 99999 e) i)
+outside_is n = grind (arith, nat_tests)
 
 -- ---- the list
 
@@ -72,11 +69,7 @@ good_short : (least : ℕ) (hs : List ℤ) → least ≤ 100000 → good_from le
 unfolding good_from
 good_short least [] l g = omega arith
 good_short least (h ∷ hs) l g =
-    let both = and_both (leb least (natural h) && leb (natural h) 99999) (good_from (suc (natural h)) hs) g in
-    let bounds = and_both (leb least (natural h)) (leb (natural h) 99999) both.0 in
-    let low = leb-true least (natural h) bounds.0 in
-    let high = leb-true (natural h) 99999 bounds.1 in
-    omega (arith, good_short (suc (natural h)) hs (omega arith) both.1)
+    grind (arith, nat_tests, good_short (suc (natural h)) hs)
 
 pub short : (hs : List ℤ) → bad_holidays hs ≡ false → length hs ≤ 100000
 short hs e = omega (arith, good_short 0 hs (omega arith) (not-false (good_from 0 hs) (sym (by_one_pass hs) ∙ e)))

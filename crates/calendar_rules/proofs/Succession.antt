@@ -136,11 +136,7 @@ module _ (d e : Date) (v : Valid d) (w : Valid e) (l : written d < written e) wh
 
   pub later_larger : day_number d < day_number e
   later_larger =
-      by_test (ltb d.year e.year) (λ (t : Bool). day_number d < day_number e) (λ f. by_year (ltb-true _ _ f))
-      (λ f.
-      let y : d.year ≡ e.year = omega (arith, ltb-false d.year e.year f, v.month, w.month, small_day d v, small_day e w) in
-      by_test (ltb d.month e.month) (λ (t : Bool). day_number d < day_number e) (λ g. by_month y (ltb-true _ _ g))
-      (λ g. by_day y (omega (arith, ltb-false d.month e.month g, v.month, w.month, small_day d v, small_day e w))))
+      grind (arith, by_year, by_month, by_day, v.month, w.month, small_day d v, small_day e w)
 
 -- dates that are written alike are the same
 pub same_written : (d e : Date) → Valid d → Valid e → written d ≡ written e → d ≡ e
@@ -153,11 +149,7 @@ same_written d e v w s =
 -- so a number has one date only
 pub one_date : (d e : Date) → Valid d → Valid e → day_number d ≡ day_number e → d ≡ e
 one_date d e v w n =
-    same_written d e v w
-    (by_test (ltb (written d) (written e)) (λ (t : Bool). written d ≡ written e) (λ f. absurd (omega (arith, later_larger d e v w (ltb-true _ _ f))))
-    (λ f.
-    by_test (ltb (written e) (written d)) (λ (t : Bool). written d ≡ written e) (λ g. absurd (omega (arith, later_larger e d w v (ltb-true _ _ g))))
-    (λ g. omega (arith, ltb-false (written d) (written e) f, ltb-false (written e) (written d) g))))
+    same_written d e v w (grind (arith, later_larger d e v w, later_larger e d w v))
 
 -- and every valid date is the date of its number
 pub date_is : (d : Date) → Valid d → date_on (day_number d) ≡ d

@@ -1,13 +1,13 @@
 -- The weekday of a day by its number: it moves on by one with each day.
 use mathlib.Core.Path.{◌≡◌, refl, sym, ap, ◌∙◌}
-use mathlib.Core.Bool.{Bool, cond}
+use mathlib.Core.Bool.{cond}
 use Prim.Native.Nat.{ℕ, zero, suc, ◌+◌, ◌%◌, ◌≤◌, ◌<◌}
 use native.Mathlib.Omega.{arith}
 use native.Mathlib.Numerals.{add-one}
-use lib.Dec.{leb, ltb, eqb}
-use borrow.Author.Tests.{ltb-true, ltb-false, le-leb, lt-leb, lt-ltb, le-ltb}
+use lib.Dec.{ltb, eqb}
+use borrow.Author.Tests.{lt-ltb, le-ltb}
 use Rattle.std.specs.Prelude.{Result, Ok, Err}
-use Rattle.whole.proofs.ListLaws.{by_test}
+use Rattle.std.proofs.lemmas.Bool.Decides.{nat_tests}
 use Rattle.calendar_rules.specs.Weekdays.{weekday_number, next_weekday, weekday_on}
 use Rattle.calendar_rules.specs.Working.{monday_to_friday}
 use Rattle.calendar_rules.specs.Calls.{weekday_of, weekday_says}
@@ -34,10 +34,7 @@ number_on (suc day) = omega (arith, next_number (weekday_on day), number_on day,
 -- Monday to Friday, by the remainder
 pub five_of_seven : (day : ℕ) → monday_to_friday day ≡ ltb ((day + 5) % 7) 5
 unfolding monday_to_friday
-five_of_seven day =
-    by_test (ltb ((day + 5) % 7) 5) (λ (t : Bool). leb (weekday_number (weekday_on day)) 5 ≡ t)
-    (λ e. le-leb (weekday_number (weekday_on day)) 5 (omega (arith, ltb-true ((day + 5) % 7) 5 e, number_on day)))
-    (λ e. lt-leb (weekday_number (weekday_on day)) 5 (omega (arith, ltb-false ((day + 5) % 7) 5 e, number_on day)))
+five_of_seven day = grind (arith, nat_tests, number_on day)
 
 -- a weekday by its number
 pub same_weekday : (w x : Weekday) → weekday_number w ≡ weekday_number x → w ≡ x

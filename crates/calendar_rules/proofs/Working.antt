@@ -3,12 +3,11 @@ use mathlib.Core.Path.{◌≡◌, refl, sym, ap, ◌∙◌}
 use mathlib.Core.Bool.{true, false}
 use mathlib.Core.List.{List}
 use mathlib.Core.Logic.{◌↔◌}
-use mathlib.Core.Option.{some}
 use Prim.Native.Nat.{ℕ, ◌-◌, ◌≤◌, ◌<◌}
 use native.Mathlib.Omega.{arith}
 use lib.IntN.{ℤ}
 use borrow.Author.Tests.{lt-ltb, le-ltb}
-use Rattle.std.specs.Prelude.{Result, Ok, Err}
+use Rattle.std.specs.Prelude.{Result, Ok, Err, Some}
 use Rattle.calendar_rules.specs.Working.{counted}
 use Rattle.calendar_rules.specs.Calls.{bad_holidays, working_day, day_says}
 use Rattle.calendar_rules.specs.Laws.{WorkingDaysAfter, WorkingExact}
@@ -43,8 +42,8 @@ working_exact = record { exactly = both_ways; otherwise = none_found; short = sh
         (λ f. let r = found_is hs (99999 - day) day count d (sym is ∙ f) in (omega (arith, r.0), r.1), λ a. is ∙ finds hs (99999 - day) day count d a.1 (omega (arith, a.0)))
 
     none_found : (day count : ℕ) (hs : List ℤ) → day ≤ 99999 → bad_holidays hs ≡ false
-        → ((d : ℕ) → d ≤ 99999 → WorkingDaysAfter hs day count d → ⊥) → (day_says (working_day day count hs)).number ≡ some 27
+        → ((d : ℕ) → d ≤ 99999 → WorkingDaysAfter hs day count d → ⊥) → (day_says (working_day day count hs)).number ≡ Some 27
     none_found day count hs l e n =
         ap (λ (a : Result ℕ Refusal). (day_says a).number) (good_list day count hs l e)
-        ∙ else_27 hs (λ (a : Result ℕ Refusal). (day_says a).number ≡ some 27) (99999 - day) day count
+        ∙ else_27 hs (λ (a : Result ℕ Refusal). (day_says a).number ≡ Some 27) (99999 - day) day count
         (λ d f. let r = found_is hs (99999 - day) day count d f in absurd (n d (omega (arith, r.0)) r.1)) refl

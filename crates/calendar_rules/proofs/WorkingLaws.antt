@@ -1,17 +1,15 @@
 -- Days that pass a test, counted: the count rises where one does; a day taken out of them; and the day that the working-day rule finds.
-use mathlib.Core.Path.{◌≡◌, refl, sym, ap, ◌∙◌, subst}
-use mathlib.Core.Bool.{Bool, true, false, not, ◌&&◌, cond, true≢false}
+use mathlib.Core.Path.{◌≡◌, refl, sym, ap}
+use mathlib.Core.Bool.{Bool, true, false, not, ◌&&◌, cond}
 use mathlib.Core.List.{List}
-use mathlib.Core.Logic.{⊎_elim}
 use Prim.Native.Nat.{ℕ, zero, suc, ◌+◌, ◌-◌, ◌≤◌, ◌<◌}
-use native.Mathlib.Nat.{eq-or-lt_of_le}
 use native.Mathlib.Omega.{arith}
 use lib.IntN.{ℤ}
 use lib.Dec.{eqb}
-use borrow.Author.Tests.{eqb-true, eqb-false, eq-eqb, ne_eqb}
+use borrow.Author.Tests.{eqb-true, eqb-false}
 use Rattle.std.specs.Prelude.{Result, Ok, Err}
+use Rattle.std.proofs.lemmas.Bool.Decides.{nat_tests}
 use Rattle.whole.proofs.ListLaws.{by_test}
-use Rattle.whole.proofs.Tests.{and_true}
 use Rattle.calendar_rules.specs.Working.{is_working, counted}
 use Rattle.calendar_rules.specs.Laws.{up_to, WorkingDaysAfter}
 use Rattle.calendar_rules.specs.declared.Refusal.{Refusal}
@@ -36,7 +34,8 @@ module _ (p : ℕ → Bool) where
   unfolding up_to
   no_fewer m zero h = let e : m ≡ 0 = omega arith in omega (arith, ap (up_to p) e)
   no_fewer m (suc n) h =
-      ⊎_elim (λ (e : m ≡ suc n). omega (arith, ap (up_to p) e)) (λ (l : m < suc n). omega (arith, no_fewer m n (omega arith))) (eq-or-lt_of_le h)
+      let last : m ≡ suc n → up_to p m ≡ up_to p (suc n) = ap (up_to p) in
+      grind (arith, no_fewer m n)
 
   -- more up to a later day that passes
   pub more : (m n : ℕ) → m < n → p n ≡ true → up_to p m < up_to p n
@@ -45,37 +44,26 @@ module _ (p : ℕ → Bool) where
 
 -- ---- a day taken out of those that pass
 
-and_not : (b t : Bool) → b ≡ false → b && not t ≡ b
-and_not true t e = absurd (true≢false e)
-and_not false t e = refl
-
 module _ (p q : ℕ → Bool) (h : ℕ) (is : (x : ℕ) → q x ≡ p x && not (eqb h x)) where
   pub other_day : (x : ℕ) → (h ≡ x → ⊥) → q x ≡ p x
-  other_day x n = is x ∙ ap (λ (t : Bool). p x && not t) (ne_eqb h x n) ∙ and_true (p x)
+  other_day x n = grind (arith, nat_tests, is x)
 
   -- before it nothing changes
   pub before_it : (n : ℕ) → n < h → up_to q n ≡ up_to p n
   unfolding up_to
   before_it zero l = refl
-  before_it (suc n) l = omega (arith, ap one (other_day (suc n) (omega arith)), before_it n (omega arith))
+  before_it (suc n) l = grind (arith, nat_tests, is (suc n), before_it n)
 
   -- from it on there is one fewer
   pub from_it : 1 ≤ h → p h ≡ true → (n : ℕ) → h ≤ n → suc (up_to q n) ≡ up_to p n
   unfolding up_to
   from_it o e zero l = absurd (omega arith)
   from_it o e (suc n) l =
-      ⊎_elim
-      (λ (s : h ≡ suc n).
-      let yes : p (suc n) ≡ true = subst (λ (x : ℕ). p x ≡ true) s e in
-      let no : q (suc n) ≡ false = is (suc n) ∙ (λ i. yes i && not (eq-eqb h (suc n) s i)) in
-      omega (arith, ap one yes, ap one no, before_it n (omega arith)))
-      (λ (s : h < suc n). omega (arith, ap one (other_day (suc n) (omega arith)), from_it o e n (omega arith)))
-      (eq-or-lt_of_le l)
+      grind (arith, nat_tests, is (suc n), before_it n, from_it o e n)
 
   -- if it didn't pass nothing changes
   pub unchanged : p h ≡ false → (x : ℕ) → q x ≡ p x
-  unchanged e x =
-      is x ∙ by_test (eqb h x) (λ (t : Bool). p x && not t ≡ p x) (λ s. and_not (p x) true (subst (λ (y : ℕ). p y ≡ false) (eqb-true h x s) e)) (λ s. and_true (p x))
+  unchanged e x = grind (arith, nat_tests, is x)
 
   pub not_in_it : p h ≡ false → (n : ℕ) → up_to q n ≡ up_to p n
   unfolding up_to
@@ -94,30 +82,20 @@ module _ (hs : List ℤ) where
   -- where some are to be counted, the day found lies after this one
   pub later_than : (day count d : ℕ) → (count ≡ 0 → ⊥) → WorkingDaysAfter hs day count d → day < d
   later_than day count d n a =
-      ⊎_elim (λ (x : day ≡ d). absurd (omega (arith, a.counts, ap (up_to works) x))) (λ (x : day < d). x) (eq-or-lt_of_le a.later)
+      let same : day ≡ d → up_to works day ≡ up_to works d = ap (up_to works) in
+      grind (arith, a.later, a.counts, n)
 
   -- and is the one found after the next
   further : (day count d : ℕ) → (count ≡ 0 → ⊥) → WorkingDaysAfter hs day count d → WorkingDaysAfter hs (suc day) (count - one (works (suc day))) d
-  further day count d n a = by_test (works (suc day)) (λ (t : Bool). WorkingDaysAfter hs (suc day) (count - one t) d) yes no
-    where
-      l : day < d
-      l = later_than day count d n a
-
-      works_then : works d ≡ true
-      works_then = a.some (omega (arith, n))
-
-      yes : works (suc day) ≡ true → WorkingDaysAfter hs (suc day) (count - 1) d
-      yes e =
-          let c : up_to works d ≡ up_to works (suc day) + (count - 1) = omega (arith, a.counts, next_yes works day e, n) in
-          record {
-            later = l;
-            counts = c;
-            none = λ z. ⊎_elim (λ (x : suc day ≡ d). sym x) (λ (x : suc day < d). absurd (omega (arith, more works (suc day) d x works_then))) (eq-or-lt_of_le l);
-            some = λ z. works_then;
-          }
-
-      no : works (suc day) ≡ false → WorkingDaysAfter hs (suc day) (count - 0) d
-      no e = record { later = l; counts = omega (arith, a.counts, next_no works day e); none = λ z. absurd (omega (arith, n)); some = λ z. works_then }
+  further day count d n a =
+      let l : day < d = later_than day count d n a in
+      let then : works d ≡ true = a.some (omega (arith, n)) in
+      record {
+        later = l;
+        counts = grind (arith, nat_tests, a.counts, next_yes works day, next_no works day, n);
+        none = λ z. grind (arith, nat_tests, a.counts, next_yes works day, next_no works day, n, λ (x : suc day < d). more works (suc day) d x then);
+        some = λ z. then;
+      }
 
   pub finds : (left day count d : ℕ) → WorkingDaysAfter hs day count d → d ≤ day + left → counted hs left day count ≡ Ok d
   unfolding counted
@@ -149,26 +127,13 @@ module _ (hs : List ℤ) where
 
   -- the day found after the next is the one found after this
   nearer : (day count d : ℕ) → (count ≡ 0 → ⊥) → WorkingDaysAfter hs (suc day) (count - one (works (suc day))) d → WorkingDaysAfter hs day count d
-  nearer day count d n = by_test (works (suc day)) (λ (t : Bool). WorkingDaysAfter hs (suc day) (count - one t) d → WorkingDaysAfter hs day count d) yes no
-    where
-      yes : works (suc day) ≡ true → WorkingDaysAfter hs (suc day) (count - 1) d → WorkingDaysAfter hs day count d
-      yes e a =
-          let last : count - 1 ≡ 0 → works d ≡ true = λ z. subst (λ (x : ℕ). works x ≡ true) (sym (a.none z)) e in
-          record {
-            later = omega (arith, a.later);
-            counts = omega (arith, a.counts, next_yes works day e, n);
-            none = λ z. absurd (n z);
-            some = λ z. by_test (eqb (count - 1) 0) (λ (t : Bool). works d ≡ true) (λ f. last (eqb-true (count - 1) 0 f)) (λ f. a.some (omega (arith, eqb-false (count - 1) 0 f)));
-          }
-
-      no : works (suc day) ≡ false → WorkingDaysAfter hs (suc day) (count - 0) d → WorkingDaysAfter hs day count d
-      no e a =
-          record {
-            later = omega (arith, a.later);
-            counts = omega (arith, a.counts, next_no works day e);
-            none = λ z. absurd (n z);
-            some = λ z. a.some (omega arith);
-          }
+  nearer day count d n a =
+      record {
+        later = omega (arith, a.later);
+        counts = grind (arith, nat_tests, a.counts, next_yes works day, next_no works day, n);
+        none = λ z. absurd (n z);
+        some = λ z. grind (arith, nat_tests, a.none, a.some, n);
+      }
 
   -- no day later than those that are left is found, and none that isn't so many working days after
   pub found_is : (left day count d : ℕ) → counted hs left day count ≡ Ok d → (d ≤ day + left) × WorkingDaysAfter hs day count d

@@ -1,6 +1,6 @@
 -- docs/SPECIFICATION.md, "The calendar" and "Refused calls": the calendar's calls, and the numbers and values of their answers.
 use Rattle.std.specs.Prelude.{ℕ, zero, suc, ◌-◌, Bool, true, not, ◌&&◌, ◌||◌, cond, List, [], ◌∷◌, eqb, ltb, ℤ, pos, Result, Ok, Err}
-use Rattle.std.proofs.Math.Option.{none, some}
+use Rattle.std.specs.Prelude.{None, Some}
 use Rattle.std.specs.Int.Signed.{lt_z}
 use Rattle.whole.specs.Lists.{any, Check, first_applying}
 use Rattle.whole.specs.Says.{Says}
@@ -76,8 +76,8 @@ results_due day holidays = working_day day 2 holidays
 
 -- the refusal's number, or what is listed of the value
 abbrev pub answer_says : {A : Type 0} → (A → List ℤ) → Result A Refusal → Says
-answer_says values (Ok x) = record { number = none; values = values x }
-answer_says values (Err r) = record { number = some (number_of r); values = [] }
+answer_says values (Ok x) = record { number = None; values = values x }
+answer_says values (Err r) = record { number = Some (number_of r); values = [] }
 
 -- a day
 abbrev pub day_says : Result ℕ Refusal → Says

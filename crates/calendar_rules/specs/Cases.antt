@@ -1,6 +1,5 @@
 -- Worked cases of the calendar: dates at its edges, and working days beside weekends, holidays and the last day.
-use Rattle.std.specs.Prelude.{ℕ, List, [], ◌∷◌, ℤ, pos, negsuc}
-use Rattle.std.proofs.Math.Option.{none, some}
+use Rattle.std.specs.Prelude.{ℕ, List, [], ◌∷◌, ℤ, pos, negsuc, None, Some}
 use Rattle.whole.specs.Says.{Says}
 use Rattle.calendar_rules.specs.Dates.{date}
 use Rattle.calendar_rules.specs.Calls.{working_day, results_due, day_says}
@@ -8,10 +7,10 @@ use Rattle.calendar_rules.specs.declared.Date.{Date}
 
 -- what is answered: a day, or a refusal's number
 abbrev pub finds : ℕ → Says
-finds day = record { number = none; values = pos day ∷ [] }
+finds day = record { number = None; values = pos day ∷ [] }
 
 abbrev pub refuses : ℕ → Says
-refuses number = record { number = some number; values = [] }
+refuses number = record { number = Some number; values = [] }
 
 -- ---- dates
 

@@ -1,6 +1,5 @@
 -- What the calendar promises besides the calls' contracts.
-use Rattle.std.specs.Prelude.{ℕ, zero, suc, ◌+◌, ◌*◌, ◌%◌, ◌≤◌, ◌<◌, ◌≡◌, Bool, true, false, cond, List, ◌↔◌, ℤ, length, Ok}
-use Rattle.std.proofs.Math.Option.{some}
+use Rattle.std.specs.Prelude.{ℕ, zero, suc, ◌+◌, ◌*◌, ◌%◌, ◌≤◌, ◌<◌, ◌≡◌, Bool, true, false, cond, List, ◌↔◌, ℤ, length, Ok, Some}
 use Rattle.calendar_rules.specs.Dates.{date, month_length}
 use Rattle.calendar_rules.specs.Weekdays.{weekday_number, next_weekday}
 use Rattle.calendar_rules.specs.Working.{is_working}
@@ -33,8 +32,8 @@ pub record CalendarExact : Type 0 where
   -- every date from first to last turns into a day and comes back
   pub dates : (d : Date) → InCalendar d → (day : ℕ) × (day_of d ≡ Ok day) × (day ≤ 99999) × (date_of day ≡ Ok d)
   -- no other triple of numbers is a date, and no other number a day
-  pub other_dates : (d : Date) → (InCalendar d → ⊥) → (day_says (day_of d)).number ≡ some 27
-  pub other_days : (day : ℕ) → 99999 < day → (date_says (date_of day)).number ≡ some 27
+  pub other_dates : (d : Date) → (InCalendar d → ⊥) → (day_says (day_of d)).number ≡ Some 27
+  pub other_days : (day : ℕ) → 99999 < day → (date_says (date_of day)).number ≡ Some 27
   -- a later date has a later day
   pub rises : (d e : Date) → InCalendar d → InCalendar e → written d < written e → (m n : ℕ) → day_of d ≡ Ok m → day_of e ≡ Ok n → m < n
   pub first : date_of 0 ≡ Ok (date 2000 1 1)
@@ -45,7 +44,7 @@ pub record WeekdaysExact : Type 0 where
   pub moves : (day : ℕ) → day < 99999 → (w : Weekday) × (weekday_of day ≡ Ok w) × (weekday_of (day + 1) ≡ Ok (next_weekday w))
   -- by its number, after which comes the next, and after 7 comes 1
   pub number : (w : Weekday) → weekday_number (next_weekday w) ≡ weekday_number w % 7 + 1
-  pub other_days : (day : ℕ) → 99999 < day → (weekday_says (weekday_of day)).number ≡ some 27
+  pub other_days : (day : ℕ) → 99999 < day → (weekday_says (weekday_of day)).number ≡ Some 27
   pub first : weekday_of 0 ≡ Ok Saturday
   pub last : weekday_of 99999 ≡ Ok Wednesday
 
@@ -69,6 +68,6 @@ pub record WorkingExact : Type 0 where
       → (d : ℕ) → (working_day day count holidays ≡ Ok d) ↔ ((d ≤ 99999) × WorkingDaysAfter holidays day count d)
   -- and where there is none it answers 27
   pub otherwise : (day count : ℕ) (holidays : List ℤ) → day ≤ 99999 → bad_holidays holidays ≡ false
-      → ((d : ℕ) → d ≤ 99999 → WorkingDaysAfter holidays day count d → ⊥) → (day_says (working_day day count holidays)).number ≡ some 27
+      → ((d : ℕ) → d ≤ 99999 → WorkingDaysAfter holidays day count d → ⊥) → (day_says (working_day day count holidays)).number ≡ Some 27
   -- a good list is short: the pass over the holidays stops at the first that is bad, so after 100001 of them at the latest
   pub short : (holidays : List ℤ) → bad_holidays holidays ≡ false → length holidays ≤ 100000

@@ -2,9 +2,10 @@
 
 #![tactic(auto)]
 
-ghost use Rattle.std.specs.Prelude.{◌≡◌};
+ghost use Rattle.std.specs.Prelude.{◌≡◌, ◌≤◌, ◌<◌, MatchResult};
 ghost use Rattle.calendar_rules.specs.Weekdays.{weekday_number};
 ghost use Rattle.calendar_rules.specs.Calls.{number_of};
+ghost use Rattle.calendar_rules.specs.declared.Refusal.TheVariants.{NoSuchDay};
 
 // ---- the rules' numbers
 
@@ -31,7 +32,28 @@ pub const LAST_DAY: u32 = 99999;
 // The working days after retrieval within which monitoring results are due.
 pub const DUE_DAYS: u32 = 2;
 
-// ---- dates and weekdays
+// ---- days, dates and weekdays
+
+// A day of the calendar.
+#[derive(Clone, Copy)]
+pub struct Day {
+    pub number: u32,
+    pub ghost within: { number ≤ 99999 },
+}
+
+// The day of this number, if there is one.
+impl TryFrom<u32> for Day {
+    type Error = Refusal;
+
+    ghost try_from_gives = { λ n r. MatchResult r (λ d. d.number ≡ n) (λ e. (e ≡ NoSuchDay) × (99999 < n)) };
+
+    fn try_from(number: u32) -> Result<Day, Refusal> {
+        if LAST_DAY < number {
+            return Err(Refusal::NoSuchDay);
+        }
+        Ok(Day { number })
+    }
+}
 
 // Year, month 1 to 12, day 1 to the month's length. What computes with it are functions of calendar_dates and calendar, not methods: as methods their proofs would stand here, among the rules.
 #[derive(Clone, Copy)]

@@ -7,7 +7,7 @@ ghost use Rattle.calendar_rules.specs.Working.{monday_to_friday};
 ghost use Rattle.calendar_rules.specs.Laws.{up_to, WorkingDaysAfter};
 ghost use Rattle.calendar_working.specs.Passes.{next_of, passed_of, HasUpTo};
 
-use calendar_rules::{SINCE_MONDAY, WEEK, WORKING_WEEK};
+use calendar_rules::{Day, SINCE_MONDAY, WEEK, WORKING_WEEK};
 
 // The week in 64 bits, in which a count of working days does not overflow.
 const DAYS: u64 = WEEK as u64;
@@ -18,6 +18,7 @@ const OFFSET: u64 = SINCE_MONDAY as u64;
 
 const FRIDAY: u64 = WORKING - 1;
 
+#[tactic(auto, using(calendar_rules::proofs::WeekdayLaws::five_of_seven))]
 fn monday_to_friday(day: u64) -> bool
     requires { day ≤ 8000000000 }
     ensures { result ≡ monday_to_friday day }
@@ -48,14 +49,13 @@ fn day_with(count: u64) -> u64
 }
 
 // The day that is so many working days after another where there are no holidays: counting begins on the day after it. The day itself for 0.
-pub fn without_holidays(day: u32, count: u32) -> u64
-    requires { day ≤ 99999 }
-    ensures { (0 < count → WorkingDaysAfter [] day count result) × (result ≤ 7000000000) }
+pub fn without_holidays(day: Day, count: u32) -> u64
+    ensures { (0 < count → WorkingDaysAfter [] day.number count result) × (result ≤ 7000000000) }
 {
     if count == 0 {
-        return u64::from(day);
+        return u64::from(day.number);
     }
-    let first = u64::from(day) + 1;
+    let first = u64::from(day.number) + 1;
     day_with(count_before(first) + u64::from(count))
 }
 
@@ -73,13 +73,13 @@ fn next(day: u64) -> u64
 }
 
 // The day found where one holiday more is listed, later than those before it: if it was counted, the next one is found instead.
-#[tactic(auto, unfolding(crate::specs::Passes::passed_of))]
-pub fn passed(day: u32, holiday: u32, found: u64) -> u64
-    requires { (holiday ≤ 99999) × (found ≤ 8000000000) }
-    ensures { result ≡ passed_of day holiday found }
+#[tactic(auto, unfolding(crate::specs::Passes::passed_of), using(std::proofs::lemmas::Bool::Decides::nat_tests))]
+pub fn passed(day: u32, holiday: Day, found: u64) -> u64
+    requires { found ≤ 8000000000 }
+    ensures { result ≡ passed_of day holiday.number found }
 {
-    let listed = u64::from(holiday);
-    if day < holiday && listed <= found && monday_to_friday(listed) {
+    let listed = u64::from(holiday.number);
+    if day < holiday.number && listed <= found && monday_to_friday(listed) {
         next(found)
     } else {
         found

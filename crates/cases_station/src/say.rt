@@ -14,83 +14,67 @@ fn phase(p: u32) -> &'static str {
     }
 }
 
+// What an accepted call gives, on the rest of its line.
+pub(crate) trait Told {
+    fn told(&self, rt: &impl Print) -> io::Result<()>;
+}
+
 // S, N, the phase after it and the intercept change.
-fn outcome(rt: &impl Print, o: Outcome) -> io::Result<()> {
-    println!(rt;
-        ": sheet S {} N {} {} {}",
-        o.sum,
-        o.count,
-        phase(o.phase),
-        o.change
-    )
+impl Told for Outcome {
+    fn told(&self, rt: &impl Print) -> io::Result<()> {
+        println!(rt;
+            ": sheet S {} N {} {} {}",
+            self.sum,
+            self.count,
+            phase(self.phase),
+            self.change
+        )
+    }
 }
 
 // The newest set's day, the intercept, B and the two figures.
-fn certificate(rt: &impl Print, c: Certificate) -> io::Result<()> {
-    println!(rt;
-        ": certificate day {} intercept {} basis {} figures {} {}",
-        c.day, c.intercept, c.basis, c.figure, c.converted
-    )
+impl Told for Certificate {
+    fn told(&self, rt: &impl Print) -> io::Result<()> {
+        println!(rt;
+            ": certificate day {} intercept {} basis {} figures {} {}",
+            self.day, self.intercept, self.basis, self.figure, self.converted
+        )
+    }
 }
 
-// What the calls below it are about.
-pub(crate) fn heading(rt: &impl Print, t: &str) -> io::Result<()> {
+// A line of its own: what the calls below it are about, or what those above it came to.
+pub(crate) fn line(rt: &impl Print, t: &str) -> io::Result<()> {
     println!(rt; "{t}")
 }
 
-// The day and the line that a call names.
-fn asked(rt: &impl Print, day: u32, line: usize) -> io::Result<()> {
-    print!(rt; "  day {day} line {line}")
-}
-
-// An opening and a repair, a sheet and a market test are told alike but for what they give: a match each is shorter than a closure for what is told.
-pub(crate) fn opening(rt: &impl Print, row: usize, a: Result<(), Refusal>) -> io::Result<()> {
-    print!(rt; "  row {row}")?;
-    match a {
-        Ok(()) => println!(rt; ": opened"),
-        Err(r) => refusal(rt, r),
-    }
-}
-
-pub(crate) fn sheet(
+// The answer of a sheet or a market test, after the day and the line that it names.
+pub(crate) fn answer<T: Told + Drop>(
     rt: &impl Print,
     day: u32,
     line: usize,
-    a: Result<Outcome, Refusal>,
+    a: Result<T, Refusal>,
 ) -> io::Result<()> {
-    asked(rt, day, line)?;
+    print!(rt; "  day {day} line {line}")?;
     match a {
-        Ok(o) => outcome(rt, o),
+        Ok(given) => given.told(rt),
         Err(r) => refusal(rt, r),
     }
 }
 
-// Whether the calls above it came to the same.
-pub(crate) fn orders(rt: &impl Print, same: bool) -> io::Result<()> {
-    if same {
-        println!(rt; "  the answers are alike, and so are the 47 places after each")
-    } else {
-        println!(rt; "  the answers or the 47 places after each are not alike")
+// The answer of a call that gives no values, told by what it did; an opening names its row before, and a repair its day.
+fn done(rt: &impl Print, a: Result<(), Refusal>, did: &str) -> io::Result<()> {
+    match a {
+        Ok(()) => println!(rt; ": {did}"),
+        Err(r) => refusal(rt, r),
     }
+}
+
+pub(crate) fn opening(rt: &impl Print, row: usize, a: Result<(), Refusal>) -> io::Result<()> {
+    print!(rt; "  row {row}")?;
+    done(rt, a, "opened")
 }
 
 pub(crate) fn repair(rt: &impl Print, day: u32, a: Result<(), Refusal>) -> io::Result<()> {
     print!(rt; "  day {day}")?;
-    match a {
-        Ok(()) => println!(rt; ": repaired"),
-        Err(r) => refusal(rt, r),
-    }
-}
-
-pub(crate) fn market(
-    rt: &impl Print,
-    day: u32,
-    line: usize,
-    a: Result<Certificate, Refusal>,
-) -> io::Result<()> {
-    asked(rt, day, line)?;
-    match a {
-        Ok(c) => certificate(rt, c),
-        Err(r) => refusal(rt, r),
-    }
+    done(rt, a, "repaired")
 }

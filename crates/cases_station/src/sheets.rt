@@ -10,63 +10,40 @@ pub(crate) const CORN_NUMBERS: usize = 4 * SAMPLE_NUMBERS;
 pub(crate) type Sample = [i32; SAMPLE_NUMBERS];
 
 // Samples with the same baseline and results.
-fn alike<const NUMBERS: usize>(baseline: i32, res: i32) -> [i32; NUMBERS] {
+pub(crate) fn alike<const NUMBERS: usize>(baseline: i32, measured: i32) -> [i32; NUMBERS] {
     let mut numbers = [NOT_MEASURED; NUMBERS];
     for sample in numbers.chunks_exact_mut(SAMPLE_NUMBERS) {
         sample[0] = baseline;
-        sample[1] = res;
-        sample[2] = res;
+        sample[1] = measured;
+        sample[2] = measured;
     }
     numbers
 }
 
-// Named by their grain, which gives the const parameter.
-pub(crate) fn wheat(baseline: i32, res: i32) -> [i32; WHEAT_NUMBERS] {
-    alike(baseline, res)
-}
-
-pub(crate) fn corn(baseline: i32, res: i32) -> [i32; CORN_NUMBERS] {
-    alike(baseline, res)
-}
-
-// Wheat, baseline 1000: five samples with the same results; the last with another first, second and again results.
-pub(crate) fn but_last(res: i32, last: [i32; 3]) -> [i32; WHEAT_NUMBERS] {
-    let [first, second, again] = last;
-    let mut numbers = wheat(1000, res);
-    numbers[WHEAT_NUMBERS - SAMPLE_NUMBERS..].copy_from_slice(&[
-        1000,
-        first,
-        second,
-        NOT_MEASURED,
-        again,
-        again,
-    ]);
+// Wheat: five samples with baseline 1000 and the same results, and another last one.
+pub(crate) fn but_last(measured: i32, last: Sample) -> [i32; WHEAT_NUMBERS] {
+    let mut numbers = alike(1000, measured);
+    numbers[WHEAT_NUMBERS - SAMPLE_NUMBERS..].copy_from_slice(&last);
     numbers
 }
 
 // Wheat, baseline 1000: five samples with one result and the last with another, and again.
-pub(crate) fn apart(res: i32, last: i32) -> [i32; WHEAT_NUMBERS] {
-    let mut numbers = wheat(1000, res);
+pub(crate) fn apart(measured: i32, last: i32) -> [i32; WHEAT_NUMBERS] {
+    let mut numbers: [i32; WHEAT_NUMBERS] = alike(1000, measured);
     for sample in numbers.chunks_exact_mut(SAMPLE_NUMBERS) {
-        sample[4] = res;
-        sample[5] = res;
+        sample[4] = measured;
+        sample[5] = measured;
     }
-    numbers[WHEAT_NUMBERS - SAMPLE_NUMBERS..].copy_from_slice(&[
-        1000,
-        last,
-        last,
-        NOT_MEASURED,
-        last,
-        last,
-    ]);
+    let sample: Sample = [1000, last, last, NOT_MEASURED, last, last];
+    numbers[WHEAT_NUMBERS - SAMPLE_NUMBERS..].copy_from_slice(&sample);
     numbers
 }
 
 // Wheat: three samples in this order, and three more at their baseline.
-pub(crate) fn three(a: Sample, b: Sample, c: Sample) -> [i32; WHEAT_NUMBERS] {
-    let mut numbers = wheat(1000, 1000);
-    for (sample, given) in numbers.chunks_exact_mut(SAMPLE_NUMBERS).zip([a, b, c]) {
-        sample.copy_from_slice(&given);
+pub(crate) fn three(samples: [Sample; 3]) -> [i32; WHEAT_NUMBERS] {
+    let mut numbers = alike(1000, 1000);
+    for (place, sample) in numbers.chunks_exact_mut(SAMPLE_NUMBERS).zip(samples) {
+        place.copy_from_slice(&sample);
     }
     numbers
 }

@@ -9,7 +9,6 @@ use lib.ListN.{length}
 use Rattle.std.specs.Prelude.{Ok}
 use Rattle.whole.specs.Places.{place, natural}
 use Rattle.chart_rules.specs.Sets.{set_of}
-use Rattle.chart_rules.specs.Charts.{past_of}
 use Rattle.chart_rules.specs.Refusals.{refusal_of, bad_size, bad_result}
 use Rattle.chart_rules.specs.Places.{chart_at}
 use Rattle.chart_rules.specs.declared.Chart.{Chart}
@@ -19,8 +18,7 @@ use Rattle.chart_rules.proofs.Charts.{sound_chart}
 use Rattle.chart_rules.proofs.Fine.{fine_call}
 use Rattle.chart_rules.proofs.InPlace.{in_15}
 use Rattle.chart_rules.proofs.Places.{held_place}
-use Rattle.chart_sets.specs.Fits.{SetFits, AllFit}
-use Rattle.chart_sets.proofs.Fits.{set_fits, all_fit}
+use Rattle.chart_rules.proofs.Sets.{SoundSet, sound_set_lem}
 
 pub record Ready (words : List ℤ) (week : ℕ) (numbers : List ℤ) (room : ℕ) : Type 0 where
   pub full : length words ≡ 15
@@ -29,8 +27,7 @@ pub record Ready (words : List ℤ) (week : ℕ) (numbers : List ℤ) (room : �
   pub size : bad_size (length numbers) ≡ false
   pub results : bad_result numbers ≡ false
   pub place : 40 ≤ room
-  pub fits : SetFits (set_of numbers)
-  pub past : AllFit (past_of (chart_at words))
+  pub made : SoundSet (set_of numbers)
 
 pub ready : {words : List ℤ} {week : ℕ} {numbers : List ℤ} {room : ℕ} {chart : Chart}
     → chart ≡ chart_at words → Ok tt ≡ refusal_of chart week numbers room → Ready words week numbers room
@@ -45,6 +42,5 @@ ready {words} {week} {numbers} {room} e a =
       size = f.size;
       results = f.results;
       place = f.place;
-      fits = set_fits (set_of numbers) (fine_sound (chart_at words) week numbers room f);
-      past = all_fit (past_of (chart_at words)) sound.sets;
+      made = sound_set_lem (set_of numbers) (fine_sound (chart_at words) week numbers room f);
     }

@@ -1,4 +1,4 @@
-// Control charts: opening, and one set charted.
+// Control charts: opening, and one set charted. What a call is handed comes from C, each part on its own: the places, a week, the numbers, a buffer.
 
 #![tactic(auto)]
 

@@ -2,14 +2,13 @@
 
 #![tactic(auto)]
 
-ghost use Rattle.std.specs.Prelude.{◌≡◌, ◌*◌, ◌≤◌, pos, neg_ℤ};
-ghost use Rattle.chart_sets.specs.Fits.{SetFits, AllFit};
+ghost use Rattle.std.specs.Prelude.{◌≡◌};
 ghost use Rattle.chart_rules.specs.Rows.{limits_of};
-ghost use Rattle.chart_rules.specs.Limits.{absolute as absolute_of, tolerance as tolerance_of, range_tolerance};
+ghost use Rattle.chart_rules.specs.Limits.{absolute, tolerance, range_absolute, range_tolerance};
 
 use chart_rules::{ChartSet, Limits};
 
-// A row's limits; a row that doesn't exist has limits of 0. The row is a number, as C hands it in and the places hold it.
+// A row's limits, five numbers of which no line has its own, so a match and no table; a row that doesn't exist has limits of 0, as in the rules. The row is a number, as C hands it in and the places hold it.
 #[tactic(auto, unfolding(chart_rules::specs::Rows::limits_of))]
 pub fn limits_of(row: u32) -> Limits
     ensures { result ≡ limits_of row }
@@ -32,38 +31,55 @@ pub fn limits_of(row: u32) -> Limits
 
 // ---- absolute and tolerance
 
+// The average's magnitude is equal to or above the limit: in 64 bits the product always fits.
 #[tactic(auto, unfolding(chart_rules::specs::Limits::absolute))]
-pub fn absolute(limit: u32, s: ChartSet) -> bool
-    requires { (limit ≤ 1000) × SetFits s }
-    ensures { result ≡ absolute_of limit s }
+fn reaches(limit: u32, s: ChartSet) -> bool
+    ensures { result ≡ absolute limit s }
 {
-    limit * s.count <= s.sum.unsigned_abs()
+    u64::from(limit) * u64::from(s.count) <= u64::from(s.sum.unsigned_abs())
 }
 
-// The lower and the upper bound, each times the set's count, as the set's sum is compared with them.
-fn bounds(limit: u32, s: ChartSet) -> (i32, i32)
-    requires { (limit ≤ 1000) × SetFits s }
-    ensures { result ≡ (neg_ℤ (pos (limit * s.count)), pos (limit * s.count)) }
-{
-    let upper = (limit * s.count) as i32;
-    (-upper, upper)
+// A set to be judged by its row's limits after the sets before it, newest first.
+#[derive(Clone, Copy)]
+pub struct Judged<'a> {
+    pub limits: Limits,
+    pub set: ChartSet,
+    pub past: &'a [ChartSet],
 }
 
-// This set and the one before it, both at or above the upper line, or both at or below the lower.
-#[tactic(auto, unfolding(chart_rules::specs::Limits::tolerance, chart_rules::specs::Limits::at_or_above, chart_rules::specs::Limits::at_or_below))]
-pub fn tolerance(limit: u32, s: ChartSet, past: &[ChartSet]) -> bool
-    requires { (limit ≤ 1000) × (SetFits s × AllFit past.now) }
-    ensures { result ≡ tolerance_of limit s past.now }
-{
-    let [before, ..] = past else { return false };
-    let (lower, upper) = bounds(limit, s);
-    let (lower_before, upper_before) = bounds(limit, *before);
-    (upper <= s.sum && upper_before <= before.sum) || (s.sum <= lower && before.sum <= lower_before)
-}
+impl Judged<'_> {
+    pub fn absolute(&self) -> bool
+        ensures { result ≡ absolute self.now.limits.al self.now.set }
+    {
+        reaches(self.limits.al, self.set)
+    }
 
-#[tactic(auto, unfolding(chart_rules::specs::Limits::range_tolerance))]
-pub fn range_tolerance(limit: u32, s: ChartSet, past: &[ChartSet]) -> bool
-    ensures { result ≡ range_tolerance limit s past.now }
-{
-    limit <= s.range && past.first().is_some_and(|before| limit <= before.range)
+    // This set and the one before it, both at or above the upper line, or both at or below the lower.
+    #[tactic(auto, unfolding(chart_rules::specs::Limits::absolute, chart_rules::specs::Limits::tolerance, chart_rules::specs::Limits::at_or_above, chart_rules::specs::Limits::at_or_below))]
+    pub fn tolerance(&self) -> bool
+        ensures { result ≡ tolerance self.now.limits.tl self.now.set self.now.past.now }
+    {
+        let [before, ..] = self.past else {
+            return false;
+        };
+        reaches(self.limits.tl, self.set)
+            && reaches(self.limits.tl, *before)
+            && ((0 <= self.set.sum && 0 <= before.sum) || (self.set.sum <= 0 && before.sum <= 0))
+    }
+
+    pub fn range_absolute(&self) -> bool
+        ensures { result ≡ range_absolute self.now.limits.ral self.now.set }
+    {
+        self.limits.ral <= self.set.range
+    }
+
+    #[tactic(auto, unfolding(chart_rules::specs::Limits::range_tolerance))]
+    pub fn range_tolerance(&self) -> bool
+        ensures { result ≡ range_tolerance self.now.limits.rtl self.now.set self.now.past.now }
+    {
+        let [newest, ..] = self.past else {
+            return false;
+        };
+        self.limits.rtl <= self.set.range && self.limits.rtl <= newest.range
+    }
 }

@@ -4,17 +4,15 @@ use mathlib.Core.List.{List, [], ◌∷◌, ◌++◌, append_assoc}
 use Prim.Native.Nat.{ℕ, ◌≤◌}
 use native.Mathlib.Omega.{arith}
 use lib.ListN.{length}
-use Rattle.whole.proofs.PartLaws.{either, size_parts}
-use Rattle.whole.proofs.BoundLaws.{in_parts}
 use Rattle.decimal.specs.Bytes.{space, line_feed}
 use Rattle.decimal.specs.Show.{show, show_signed}
 use Rattle.chart_rules.specs.Lines.{values_of, line_of}
-use Rattle.chart_sets.specs.Fits.{SetFits}
 use Rattle.chart_line.specs.Values.{SmallValues, flag_bytes}
 use Rattle.chart_rules.specs.declared.ChartSet.{ChartSet}
 use Rattle.chart_rules.specs.declared.Chart.{Chart}
 use Rattle.chart_rules.specs.declared.Values.{Values}
 use Rattle.chart_rules.proofs.Lines.{truth_byte}
+use Rattle.chart_rules.proofs.Sets.{SoundSet}
 
 to_right : (a b c d e f : List ℕ) → a ++ (b ++ (c ++ (d ++ (e ++ f)))) ≡ a ++ b ++ c ++ d ++ e ++ f
 to_right a b c d e f = simp append_assoc
@@ -30,7 +28,6 @@ pub flags_length : (v : Values) → length (flag_bytes v) ≡ 10
 unfolding flag_bytes
 flags_length v = refl
 
-pub values_small : (c : Chart) (week : ℕ) (s : ChartSet) → week ≤ 9999 → SetFits s → SmallValues (values_of c week s)
+pub values_small : (c : Chart) (week : ℕ) (s : ChartSet) → week ≤ 9999 → SoundSet s → SmallValues (values_of c week s)
 unfolding values_of
-values_small c week s h f =
-    record { week = omega arith; count = omega (arith, f.five); sum = omega (arith, in_parts f.sum, size_parts s.sum, either s.sum); range = omega (arith, f.range) }
+values_small c week s h f = record { week = omega arith; count = omega (arith, f.five); sum = omega (arith, f.five, f.sum); range = omega (arith, f.range) }

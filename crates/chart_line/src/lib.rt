@@ -1,38 +1,39 @@
-// A set's output line: what it says, and its bytes.
+// A set's output line: what it says, and its bytes. Buffer and position stay two parameters, for the reason that decimal gives.
 
 #![tactic(auto)]
 
 ghost use Rattle.std.specs.Prelude.{◌≡◌, ◌+◌, ◌≤◌, length};
 ghost use Rattle.decimal.specs.Put.{Put};
-ghost use Rattle.chart_sets.specs.Fits.{SetFits, AllFit};
-ghost use Rattle.chart_rules.specs.Charts.{past_of};
 ghost use Rattle.chart_rules.specs.Lines.{values_of, line_of};
 ghost use Rattle.chart_line.specs.Values.{flag_bytes, SmallValues};
 
+use chart_limits::Judged;
 use chart_rules::{Chart, ChartSet, Values};
 
 // What the set's output line says.
-#[tactic(auto, using(chart_limits::proofs::Rows::row_small))]
 pub fn values_of(chart: Chart, week: u32, s: ChartSet) -> Values
-    requires { SetFits s × AllFit (past_of chart) }
     ensures { result ≡ values_of chart week s }
 {
-    let limits = chart_limits::limits_of(chart.row);
-    let past = chart.past();
+    let judged = Judged {
+        limits: chart_limits::limits_of(chart.row),
+        set: s,
+        past: chart.past(),
+    };
     Values {
         week,
         count: s.count,
         sum: s.sum,
         range: s.range,
-        al: chart_limits::absolute(limits.al, s),
-        tl: chart_limits::tolerance(limits.tl, s, past),
-        run: chart_run::run(limits.run, s, past),
-        ral: limits.ral <= s.range,
-        rtl: chart_limits::range_tolerance(limits.rtl, s, past),
+        al: judged.absolute(),
+        tl: judged.tolerance(),
+        run: chart_run::run(judged.limits.run, s, judged.past),
+        ral: judged.range_absolute(),
+        rtl: judged.range_tolerance(),
     }
 }
 
 // The five flags, each after a space.
+#[tactic(auto, unfolding(crate::specs::Values::flag_bytes), using(decimal::proofs::Put::put_then))]
 fn put_flags(out: &mut [u8], at: usize, v: Values) -> usize
     requires { at + 10 ≤ length out.old }
     ensures { Put out.old at (flag_bytes v) out.new result }
@@ -45,6 +46,7 @@ fn put_flags(out: &mut [u8], at: usize, v: Values) -> usize
 }
 
 // The output line from position at on, line feed included: the position behind it.
+#[tactic(auto, using(decimal::proofs::Show::width_5, decimal::proofs::Signs::width_signed, crate::proofs::Lines::flags_length))]
 pub fn write_values(out: &mut [u8], at: usize, v: Values) -> usize
     requires { (at + 40 ≤ length out.old) × SmallValues v }
     ensures { (Put out.old at (line_of v) out.new result) × (result ≤ at + 40) }

@@ -1,4 +1,4 @@
-// Which refusal applies to a call that charts one set.
+// Which refusal applies to a call that charts one set. Week, numbers and room are what the call is handed from C, each on its own.
 
 #![tactic(auto)]
 

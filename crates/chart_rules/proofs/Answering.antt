@@ -2,7 +2,6 @@
 use mathlib.Core.Path.{◌≡◌, refl, sym, ap, ◌∙◌}
 use mathlib.Core.Bool.{cond}
 use mathlib.Core.List.{List, [], ◌∷◌}
-use mathlib.Core.Option.{some}
 use Prim.Native.Nat.{ℕ, ◌+◌, ◌*◌, ◌≤◌, ◌<◌}
 use native.Mathlib.Omega.{arith}
 use lib.ListN.{length, length-append}
@@ -13,10 +12,11 @@ use Rattle.chart_rules.specs.Judging.{first_ruling, value_lines, text_checks, st
 use Rattle.chart_rules.specs.Output.{output_names, text_sets, text_lines, output_of, room_check, call_checks, answer_of, text_bytes, TextCharted, chart_text_of, text_says}
 use Rattle.chart_rules.specs.Laws.{TextUntouched}
 use Rattle.chart_rules.specs.declared.TextRefusal.TheVariants.{ShortBuffer}
-use Rattle.chart_rules.proofs.Rulings.{otherwise, first_append, fine_head, fine_both}
-use Rattle.chart_rules.proofs.Judging.{good_fine, good_starts, fine_text}
+use Rattle.chart_rules.proofs.Rulings.{otherwise, first_append, fine_both}
+use Rattle.chart_rules.proofs.Fine.{fine_head}
+use Rattle.chart_rules.proofs.Judging.{good_checks, good_fine, good_starts, fine_text}
 use Rattle.chart_rules.proofs.Output.{text_count, text_short}
-use Rattle.std.specs.Prelude.{Result, Ok, Err}
+use Rattle.std.specs.Prelude.{Some, Result, Ok, Err}
 use Rattle.chart_rules.specs.declared.RefusedText.{RefusedText}
 
 -- the buffer is too short, which names no text line
@@ -28,7 +28,7 @@ first_is : (text : List ℕ) (room : ℕ) → first_ruling (call_checks text roo
 first_is text room = first_append (text_checks text) (room_check text room ∷ [])
 
 refused_verdict : (x : Result (Unit {0}) RefusedText) (sets : ℕ) (r : RefusedText) → verdict x sets ≡ Err r → x ≡ Err r
-refused_verdict (Ok fine) sets r e = let z : ◌≡◌ {A = ℕ} 0 1 = cc in absurd (omega arith)
+refused_verdict (Ok fine) sets r e = absurd cc
 refused_verdict (Err q) sets r e = cc
 
 pub refused_answer : (text : List ℕ) (room : ℕ) (r : RefusedText) → judged text ≡ Err r → answer_of text room ≡ Err r
@@ -59,24 +59,20 @@ module _ (text : List ℕ) (room n : ℕ) (e : judged text ≡ Ok n) where
   full_answer h = rw (room_first, le-ltb room (40 * (n + 1)) h)
 
 -- a text that is written is fine
-written_first : (x : Result (Unit {0}) RefusedText) (k n : ℕ) → verdict x k ≡ Ok n → (x ≡ Ok tt) × (n ≡ k)
-written_first (Ok fine) k n e = (refl, cc)
-written_first (Err r) k n e = let z : ◌≡◌ {A = ℕ} 0 1 = cc in absurd (omega arith)
-
 module _ (text : List ℕ) (room n : ℕ) (e : answer_of text room ≡ Ok n) where
   pub written_fine : first_ruling (text_checks text) ≡ Ok tt
   unfolding answer_of
-  written_fine = (fine_both _ _ (sym (first_is text room) ∙ (written_first (first_ruling (call_checks text room)) (length (output_of text)) n e).0)).0
+  written_fine = (fine_both _ _ (sym (first_is text room) ∙ (good_checks (first_ruling (call_checks text room)) (length (output_of text)) n e).0)).0
 
   pub written_length : n ≡ length (output_of text)
   unfolding answer_of
-  written_length = (written_first (first_ruling (call_checks text room)) (length (output_of text)) n e).1
+  written_length = sym (good_checks (first_ruling (call_checks text room)) (length (output_of text)) n e).1
 
   -- a buffer that isn't refused holds the output
   pub written_fits : n ≤ room
   unfolding answer_of output_of
   written_fits =
-      let w = written_first (first_ruling (call_checks text room)) (length (output_of text)) n e in
+      let w = good_checks (first_ruling (call_checks text room)) (length (output_of text)) n e in
       let b = fine_both _ _ (sym (first_is text room) ∙ w.0) in
       let wide = ltb-false room (40 * (length (text_sets text) + 1)) (fine_head _ _ _ b.1).0 in
       omega (arith, w.1, wide, text_short text, length-append output_names (text_lines text))
@@ -95,9 +91,9 @@ unfolding text_bytes
 text_refused text old r e = text_is text old old (Err r) (sym e) refl
 
 -- a refused text writes nothing
-untouched : (a : Result ℕ RefusedText) (output old : List ℕ) (n : ℕ) → (text_says a).number ≡ some n → overwritten (text_bytes a output) old ≡ old
+untouched : (a : Result ℕ RefusedText) (output old : List ℕ) (n : ℕ) → (text_says a).number ≡ Some n → overwritten (text_bytes a output) old ≡ old
 unfolding text_bytes
-untouched (Ok k) output old n e = let z : ◌≡◌ {A = ℕ} 0 1 = cc in absurd (omega arith)
+untouched (Ok k) output old n e = absurd cc
 untouched (Err r) output old n e = refl
 
 pub text_untouched : TextUntouched

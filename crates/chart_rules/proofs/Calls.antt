@@ -1,7 +1,6 @@
 -- The two ways of a call; a sound chart stays sound.
 use mathlib.Core.Path.{◌≡◌, refl}
-use mathlib.Core.Bool.{true, false, cond, not}
-use mathlib.Core.Option.{none, some}
+use mathlib.Core.Bool.{true, cond, not}
 use mathlib.Core.List.{List}
 use Prim.Native.Nat.{ℕ}
 use native.Mathlib.Omega.{arith}
@@ -10,7 +9,7 @@ use Rattle.whole.proofs.ListLaws.{by_test}
 use Rattle.std.specs.Prelude.{Result, Ok, Err}
 use Rattle.chart_rules.specs.Sets.{set_of}
 use Rattle.chart_rules.specs.Rows.{row_exists}
-use Rattle.chart_rules.specs.Calls.{opening, open_of, open_says, ChartResult, decided, accepted, result_of}
+use Rattle.chart_rules.specs.Calls.{opening, open_of, ChartResult, decided, accepted, result_of}
 use Rattle.chart_rules.specs.Charts.{sound_set, sound}
 use Rattle.chart_rules.specs.Refusals.{refusal_of}
 use Rattle.chart_rules.specs.Laws.{StaysSound, OpenedExactly, LowestNumber}
@@ -54,13 +53,6 @@ stays_sound = record { opened = opened_sound; charted = charted_sound }
 pub lowest_number : LowestNumber
 lowest_number c week numbers room = (omega arith, (omega arith, (omega arith, (omega arith, tt))))
 
-open_row : (row : ℕ) → row_exists row ≡ true → (open_says (open_of row).answer).number ≡ none
-unfolding open_of opening
-open_row row e = rw e
-
-no_open_row : (row : ℕ) → row_exists row ≡ false → (open_says (open_of row).answer).number ≡ some 1
-unfolding open_of opening
-no_open_row row e = rw e
-
 pub opened_exactly : OpenedExactly
-opened_exactly = record { opened = open_row; refused = no_open_row }
+unfolding open_of opening
+opened_exactly = record { opened = λ row e. rw e; refused = λ row e. rw e }

@@ -1,6 +1,6 @@
 -- The reader takes a line exactly where the text has it as it is written: both ways.
 use mathlib.Core.Path.{◌≡◌, refl, sym, ap, ◌∙◌, subst}
-use mathlib.Core.Bool.{Bool, true, false, cond, false≢true}
+use mathlib.Core.Bool.{true, false, false≢true}
 use mathlib.Core.List.{List, [], ◌∷◌, ◌++◌, append_assoc}
 use Prim.Native.Nat.{ℕ, ◌+◌, ◌-◌, ◌*◌, ◌/◌, ◌%◌, ◌≤◌, ◌<◌}
 use native.Mathlib.Omega.{arith}
@@ -17,28 +17,23 @@ use Rattle.chart_rules.specs.declared.ValueLine.{ValueLine}
 use Rattle.chart_rules.proofs.Numbers.{digit_range}
 use Rattle.chart_rules.proofs.RoundTrip.{read_show}
 use Rattle.std.specs.Prelude.{Some, None}
+use Rattle.std.proofs.lemmas.Bool.{cond_both}
 
 -- ---- what is written is read
 
-module _ (text : List ℕ) (e at n : ℕ) (rest : List ℕ) (p : drop at text ≡ show n ++ (e ∷ rest)) where
-  -- the text behind the number
-  behind : drop (at + length (show n)) text ≡ e ∷ rest
-  behind = sym (drop-drop (length (show n)) at text) ∙ ap (drop (length (show n))) p ∙ drop-append_seam (show n) (e ∷ rest)
+-- what stands behind a piece of the text
+pub behind : (text : List ℕ) (at : ℕ) (a b : List ℕ) → drop at text ≡ a ++ b → drop (at + length a) text ≡ b
+behind text at a b e = sym (drop-drop (length a) at text) ∙ ap (drop (length a)) e ∙ drop-append_seam a b
 
-  -- and behind the byte that ends it
+module _ (text : List ℕ) (e at n : ℕ) (rest : List ℕ) (p : drop at text ≡ show n ++ (e ∷ rest)) where
+  -- the text behind the byte that ends the number
   next_is : drop (at + length (show n) + 1) text ≡ rest
-  next_is = sym (drop-drop 1 (at + length (show n)) text) ∙ ap (drop 1) behind
+  next_is = behind text (at + length (show n)) (e ∷ []) rest (behind text at (show n) (e ∷ rest) p)
 
   field_show : n < 100000 → is_digit e ≡ false → field text e at ≡ Some (n, at + length (show n) + 1)
   unfolding field number_at ended
   field_show small stop =
-      rw (p, read_show n at (e ∷ rest) small stop, behind, eq-eqb e e refl)
-
-no_space : is_digit space ≡ false
-no_space = refl
-
-no_feed : is_digit line_feed ≡ false
-no_feed = refl
+      rw (p, read_show n at (e ∷ rest) small stop, behind text at (show n) (e ∷ rest) p, eq-eqb e e refl)
 
 -- a piece of a line stands in front of the rest of the text
 piece : (text : List ℕ) (at n e : ℕ) (more rest : List ℕ) → drop at text ≡ (show n ++ (e ∷ more)) ++ rest → drop at text ≡ show n ++ (e ∷ more ++ rest)
@@ -69,10 +64,10 @@ line_show text at v rest p s =
     let p₄ = piece text k v.monitor line_feed _ rest (next_is text space j v.original _ p₃) in
     let e : k + length (show v.monitor) + 1 ≡ at + length (value_line v) = omega (arith, length_line v) in
     rw (
-      field_show text space at v.week _ p₁ s.0 no_space,
-      field_show text space i v.sample _ p₂ s.1 no_space,
-      field_show text space j v.original _ p₃ s.2 no_space,
-      field_show text line_feed k v.monitor _ p₄ s.3 no_feed,
+      field_show text space at v.week _ p₁ s.0 refl,
+      field_show text space i v.sample _ p₂ s.1 refl,
+      field_show text space j v.original _ p₃ s.2 refl,
+      field_show text line_feed k v.monitor _ p₄ s.3 refl,
     ) (ap (λ (n : ℕ). Some (v, n)) e)
 
 -- ---- what is read was written
@@ -81,10 +76,6 @@ line_show text at v rest p s =
 Reads : List ℕ → ℕ → Number → Type 0
 Reads cs i (Some (n, j)) = (n < 100000) × (j ≡ i + length (show n)) × ((rest : List ℕ) × (cs ≡ show n ++ rest))
 Reads cs i None = Unit {0}
-
-if_case : (P : Number → Type 0) (b : Bool) (x y : Number) → (b ≡ true → P x) → (b ≡ false → P y) → P (cond b x y)
-if_case P true x y p q = p refl
-if_case P false x y p q = q refl
 
 -- a digit behind n makes ten times n and the digit
 show_digit : (n c : ℕ) → 0 < n → 48 ≤ c → c ≤ 57 → show (10 * n + (c - 48)) ≡ show n ++ (c ∷ [])
@@ -98,8 +89,8 @@ digits_sound : (n i : ℕ) (cs : List ℕ) → 0 < n → n < 100000 → Reads (s
 unfolding Reads digits
 digits_sound n i [] p h = (h, refl, ([], refl))
 digits_sound n i (c ∷ cs) p h =
-    if_case (Reads (show n ++ (c ∷ cs)) i) (is_digit c) _ _
-    (λ d. if_case (Reads (show n ++ (c ∷ cs)) i) (ltb n 10000) _ _
+    cond_both (is_digit c) _ _ (Reads (show n ++ (c ∷ cs)) i)
+    (λ d. cond_both (ltb n 10000) _ _ (Reads (show n ++ (c ∷ cs)) i)
     (λ t.
     let range = digit_range c d in
     let m : ℕ = 10 * n + (c - 48) in
@@ -116,11 +107,11 @@ number_sound : (i : ℕ) (cs : List ℕ) → Reads cs i (number i cs)
 unfolding Reads number
 number_sound i [] = tt
 number_sound i (c ∷ cs) =
-    if_case (Reads (c ∷ cs) i) (eqb c 48) _ _
+    cond_both (eqb c 48) _ _ (Reads (c ∷ cs) i)
     (λ z.
     let e = show_small 0 (omega arith) in
     (omega arith, omega (arith, ap length e), (cs, ap (λ (d : ℕ). d ∷ cs) (eqb-true c 48 z) ∙ ap (λ (l : List ℕ). l ++ cs) (sym e))))
-    (λ z. if_case (Reads (c ∷ cs) i) (is_digit c) _ _
+    (λ z. cond_both (is_digit c) _ _ (Reads (c ∷ cs) i)
     (λ d.
     let range = digit_range c d in
     let one : show (c - 48) ≡ c ∷ [] = show_small (c - 48) (omega arith) ∙ ap (λ (k : ℕ). k ∷ []) (omega arith) in
@@ -140,10 +131,9 @@ Ends text e at None = Unit {0}
 ended_sound : (text : List ℕ) (e at : ℕ) (x : Number) → Reads (drop at text) at x → Ends text e at (ended text e x)
 unfolding Reads Ends ended
 ended_sound text e at (Some (n, i)) (h, q, (rest, p)) =
-    if_case (Ends text e at) (begins e (drop i text)) _ _
+    cond_both (begins e (drop i text)) _ _ (Ends text e at)
     (λ b.
-    let here : drop i text ≡ rest =
-    ap (λ (k : ℕ). drop k text) q ∙ sym (drop-drop (length (show n)) at text) ∙ ap (drop (length (show n))) p ∙ drop-append_seam (show n) rest in
+    let here : drop i text ≡ rest = ap (λ (k : ℕ). drop k text) q ∙ behind text at (show n) rest p in
     let split : rest ≡ e ∷ drop (i + 1) text =
     sym here ∙ begins_is e (drop i text) b ∙ ap (λ (l : List ℕ). e ∷ l) (drop-drop 1 i text) in
     (h, omega arith, p ∙ ap (λ (l : List ℕ). show n ++ l) split))
@@ -165,10 +155,6 @@ unfoldable pub Written : List ℕ → ℕ → LineRead → Type 0
 Written text at (Some (v, next)) = FiveDigits v × (next ≡ at + length (value_line v)) × (drop at text ≡ value_line v ++ drop next text)
 Written text at None = Unit {0}
 
-bad : (text : List ℕ) (at : ℕ) → Written text at None
-unfolding Written
-bad text at = tt
-
 line_whole : (text : List ℕ) (at w s o m i j k next : ℕ) → Ends text space at (Some (w, i)) → Ends text space i (Some (s, j)) → Ends text space j (Some (o, k)) → Ends text line_feed k (Some (m, next))
     → Written text at (Some ((record { week = w; sample = s; original = o; monitor = m }), next))
 unfolding Ends Written FiveDigits
@@ -181,13 +167,13 @@ line_whole text at w s o m i j k next p₁ p₂ p₃ p₄ =
     )
 
 line_written : (text : List ℕ) (at : ℕ) → Written text at (line_at text at)
-unfolding line_at
+unfolding line_at Written
 line_written text at =
     let Q = Written text at in
-    then_sound Q text space at _ _ (bad text at) (field_sound text space at) (λ w i p₁.
-    then_sound Q text space i _ _ (bad text at) (field_sound text space i) (λ s j p₂.
-    then_sound Q text space j _ _ (bad text at) (field_sound text space j) (λ o k p₃.
-    then_sound Q text line_feed k _ _ (bad text at) (field_sound text line_feed k) (λ m next p₄.
+    then_sound Q text space at _ _ tt (field_sound text space at) (λ w i p₁.
+    then_sound Q text space i _ _ tt (field_sound text space i) (λ s j p₂.
+    then_sound Q text space j _ _ tt (field_sound text space j) (λ o k p₃.
+    then_sound Q text line_feed k _ _ tt (field_sound text line_feed k) (λ m next p₄.
     line_whole text at w s o m i j k next p₁ p₂ p₃ p₄))))
 
 -- what is read was written
@@ -203,3 +189,7 @@ lines_exact = record { written_read = line_show; read_written = line_read }
 -- a line has some bytes
 pub some_bytes : (v : ValueLine) → 0 < length (value_line v)
 some_bytes v = omega (arith, length_line v)
+
+-- a line that was read ends behind where it began
+pub line_forward : (text : List ℕ) (at next : ℕ) (v : ValueLine) → line_at text at ≡ Some (v, next) → at < next
+line_forward text at next v e = omega (arith, (line_read text at next v e).1, some_bytes v)

@@ -1,13 +1,13 @@
 -- A chart text and its numbers determine each other: over the lines of the text, from what `lines` says of each.
-use mathlib.Core.Path.{◌≡◌, refl, sym, ap, ◌∙◌, subst}
+use mathlib.Core.Path.{◌≡◌, refl, sym, ap, ◌∙◌}
 use mathlib.Core.Logic.{⊎_elim}
 use mathlib.Core.Bool.{true}
 use mathlib.Core.List.{List, [], ◌∷◌, ◌++◌}
 use Prim.Native.Nat.{ℕ, zero, suc, ◌+◌, ◌≤◌, ◌<◌}
 use native.Mathlib.Omega.{arith}
-use lib.ListN.{length, drop, length-append, drop_of_length-le}
-use lib.Seq.{drop-drop, drop-append_seam}
-use Rattle.decimal.proofs.Show.{lt_or_ge}
+use lib.ListN.{length, drop, length-append, length-drop, drop_of_length-le}
+use lib.Seq.{drop-append_seam}
+use Rattle.std.proofs.lemmas.Bool.{cases_lt}
 use Rattle.std.proofs.lemmas.Slice.Eq.{starts_is}
 use Rattle.std.proofs.lemmas.Bool.Decides.{Decides-eqb}
 use Rattle.chart_rules.specs.TextLines.{LineRead, line_at, value_line, names_line, starts_with}
@@ -16,30 +16,19 @@ use Rattle.chart_rules.specs.Fine.{GoodLines}
 use Rattle.chart_rules.specs.Output.{answer_of}
 use Rattle.chart_rules.specs.Laws.{lines_text, text_of, lines_read, AllFive, TextExact}
 use Rattle.chart_rules.specs.declared.ValueLine.{ValueLine}
-use Rattle.chart_rules.proofs.Canonical.{lines_exact, some_bytes}
+use Rattle.chart_rules.proofs.Canonical.{behind, lines_exact, some_bytes}
 use Rattle.chart_rules.proofs.TextLines.{lines_end, lines_bad, lines_more}
 use Rattle.chart_rules.proofs.Judging.{fine_text}
 use Rattle.chart_rules.proofs.Answering.{written_fine}
-use Rattle.std.specs.Prelude.{Option, Some, None, Ok}
+use Rattle.std.specs.Prelude.{Some, None, Ok}
 
 -- ---- what is written is read
-drop_nil : (n : ℕ) → drop {A = ℕ} n [] ≡ []
-drop_nil zero = refl
-drop_nil (suc n) = refl
-
 -- a position where something stands lies inside the text
 inside_at : (text : List ℕ) (at : ℕ) (rest : List ℕ) → drop at text ≡ rest → 0 < length rest → at < length text
-inside_at [] at rest e h = absurd (omega (arith, ap length (sym (drop_nil at) ∙ e)))
-inside_at (x ∷ text) zero rest e h = omega arith
-inside_at (x ∷ text) (suc at) rest e h = omega (arith, inside_at text at rest e h)
+inside_at text at rest e h = omega (arith, length-drop at text, ap length e)
 
 end_at : (text : List ℕ) (at : ℕ) → drop at text ≡ [] → length text ≤ at
-end_at [] at e = omega arith
-end_at (x ∷ text) zero e = absurd (omega (arith, ap length e))
-end_at (x ∷ text) (suc at) e = omega (arith, end_at text at e)
-
-behind : (text : List ℕ) (at : ℕ) (a b : List ℕ) → drop at text ≡ a ++ b → drop (at + length a) text ≡ b
-behind text at a b e = sym (drop-drop (length a) at text) ∙ ap (drop (length a)) e ∙ drop-append_seam a b
+end_at text at e = omega (arith, length-drop at text, ap length e)
 
 read_from : (text : List ℕ) (at : ℕ) (vs : List ValueLine) → drop at text ≡ lines_text vs → AllFive vs → lines_read (lines_at text at) ≡ vs
 unfolding lines_text lines_read AllFive
@@ -56,42 +45,25 @@ unfolding text_of
 text_read vs f = read_from (names_line ++ lines_text vs) (length names_line) vs (drop-append_seam names_line (lines_text vs)) f
 
 -- ---- what is read was written
-none_written : lines_text (lines_read []) ≡ []
-unfolding lines_text lines_read
-none_written = refl
-
-one_written : (v : ValueLine) (ls : List (Option ValueLine)) → lines_text (lines_read (Some v ∷ ls)) ≡ value_line v ++ lines_text (lines_read ls)
-unfolding lines_text lines_read
-one_written v ls = refl
-
-good_bad : (week sample : ℕ) (ls : List (Option ValueLine)) → GoodLines week sample (None ∷ ls) → ⊥
-unfolding GoodLines
-good_bad week sample ls g = g
-
-good_rest : (week sample : ℕ) (v : ValueLine) (ls : List (Option ValueLine)) → GoodLines week sample (Some v ∷ ls) → GoodLines v.week v.sample ls
-unfolding GoodLines
-good_rest week sample v ls g = g.1
-
 -- behind the end nothing is left
 written_end : (text : List ℕ) (at : ℕ) → length text ≤ at → lines_text (lines_read (lines_at text at)) ≡ drop at text
-written_end text at h = ap (λ (ls : List (Option ValueLine)). lines_text (lines_read ls)) (lines_end text at h) ∙ none_written ∙ sym (drop_of_length-le text h)
+unfolding lines_text lines_read
+written_end text at h = rw (lines_end text at h, drop_of_length-le text h)
 
 written_from : (k : ℕ) (text : List ℕ) (at week sample : ℕ) → length text ≤ at + k → GoodLines week sample (lines_at text at) → lines_text (lines_read (lines_at text at)) ≡ drop at text
+unfolding lines_text lines_read GoodLines
 written_from zero text at week sample h g = written_end text at (omega arith)
-written_from (suc k) text at week sample h g = ⊎_elim (λ i. line_from i (line_at text at) refl (λ next w s. written_from k text next w s)) (λ e. written_end text at e) (lt_or_ge at (length text))
+written_from (suc k) text at week sample h g = ⊎_elim (λ i. line_from i (line_at text at) refl (λ next w s. written_from k text next w s)) (λ e. written_end text at e) (cases_lt at (length text))
   where
     line_from : at < length text → (x : LineRead) → line_at text at ≡ x
         → ((next w s : ℕ) → length text ≤ next + k → GoodLines w s (lines_at text next) → lines_text (lines_read (lines_at text next)) ≡ drop next text)
         → lines_text (lines_read (lines_at text at)) ≡ drop at text
-    line_from i None e again = absurd (good_bad week sample [] (subst (GoodLines week sample) (lines_bad text at i e) g))
+    line_from i None e again = absurd (rw (lines_bad text at i e) at g)
     line_from i (Some (v, next)) e again =
         let p = lines_exact.read_written text at next v e in
         let more = lines_more text at v next i e in
-        let rest = good_rest week sample v (lines_at text next) (subst (GoodLines week sample) more g) in
-        ap (λ (ls : List (Option ValueLine)). lines_text (lines_read ls)) more
-        ∙ one_written v (lines_at text next)
-        ∙ ap (λ (l : List ℕ). value_line v ++ l) (again next v.week v.sample (omega (arith, p.1, some_bytes v)) rest)
-        ∙ sym p.2
+        let rest = rw more at g in
+        rw more (ap (λ (l : List ℕ). value_line v ++ l) (again next v.week v.sample (omega (arith, p.1, some_bytes v)) rest.1) ∙ sym p.2)
 
 begins : (hs cs : List ℕ) → starts_with hs cs ≡ true → hs ++ drop (length hs) cs ≡ cs
 begins hs cs e = sym ((starts_is Decides-eqb cs hs true (sym e)).0 refl)

@@ -10,9 +10,9 @@ use Rattle.std.specs.Prelude.{Result, Ok, Err}
 use Rattle.chart_rules.specs.Refusals.{bad_week, bad_size, bad_result, refusal_of}
 use Rattle.chart_rules.specs.Charts.{sound}
 use Rattle.chart_rules.specs.declared.Chart.{Chart}
-use Rattle.chart_rules.specs.declared.Refusal.{Refusal}
 
-fine_head : (b : Bool) (r : Refusal) (rest : Result (Unit {0}) Refusal) → cond b (Err r) rest ≡ Ok tt → (b ≡ false) × (rest ≡ Ok tt)
+-- the first of some checks doesn't apply, nor any behind it
+pub fine_head : {R : Type 0} (b : Bool) (r : R) (rest : Result (Unit {0}) R) → cond b (Err r) rest ≡ Ok tt → (b ≡ false) × (rest ≡ Ok tt)
 fine_head true r rest e = absurd cc
 fine_head false r rest e = (refl, e)
 

@@ -1,20 +1,19 @@
 -- A good text: every one of its sets is charted, and there are at most 9999, so the program's buffer holds its output.
 use mathlib.Core.Path.{◌≡◌, refl, sym, ap, ◌∙◌, subst}
-use mathlib.Core.Bool.{Bool, true, false, cond}
+use mathlib.Core.Bool.{true, false, cond}
+use mathlib.Core.Logic.{⊎_elim}
 use mathlib.Core.List.{List, [], ◌∷◌, ◌++◌, append_assoc, append-nil}
-use mathlib.Core.Option.{none as nothing, some}
-use Prim.Native.Nat.{ℕ, zero, suc, ◌+◌, ◌*◌, ◌≤◌, ◌<◌}
+use Prim.Native.Nat.{ℕ, ◌+◌, ◌*◌, ◌%◌, ◌≤◌, ◌<◌}
 use native.Mathlib.Omega.{arith}
 use lib.IntN.{ℤ}
 use lib.ListN.{length, length-append}
-use lib.Dec.{eqb}
-use borrow.Author.Tests.{eqb-true, eqb-false, lt-leb, le-ltb}
+use borrow.Author.Tests.{lt-leb, le-ltb, ne_eqb}
+use Rattle.std.proofs.lemmas.Bool.{cases_eq}
 use Rattle.whole.specs.Lists.{Check}
 use Rattle.whole.proofs.Tests.{or_none}
 use Rattle.whole.proofs.ListLaws.{by_test}
-use Rattle.std.specs.Prelude.{Ok}
 use Rattle.chart_rules.specs.Refusals.{bad_week, bad_size, outside, bad_result, refusal_of}
-use Rattle.chart_rules.specs.Calls.{opening, open_of, decided, accepted, result_of, chart_says}
+use Rattle.chart_rules.specs.Calls.{decided, accepted, result_of, chart_says}
 use Rattle.chart_rules.specs.Charts.{sound, fresh_chart, next_chart}
 use Rattle.chart_rules.specs.Judging.{first_ruling, value_lines, lines_checks, text_checks, starts, verdict, judged, pair, text_number}
 use Rattle.chart_rules.specs.Fine.{FineLine, GoodLines}
@@ -23,23 +22,15 @@ use Rattle.chart_rules.specs.Output.{output_names, text_sets, text_lines, output
 use Rattle.chart_rules.specs.Laws.{AllCharted, set_results, line_results, lines_read, GoodCharted, program_room, ProgramFits}
 use Rattle.chart_rules.specs.declared.ValueLine.{ValueLine}
 use Rattle.chart_rules.specs.declared.Chart.{Chart}
+use Rattle.chart_rules.proofs.Charts.{fresh_sound}
 use Rattle.chart_rules.proofs.Calls.{stays_sound}
 use Rattle.chart_rules.proofs.Rulings.{fine_next, fine_start, fine_first}
 use Rattle.chart_rules.proofs.Judging.{fine_text, one_or_none, not_one}
 use Rattle.chart_rules.proofs.Gathering.{finished_some, closed_start, closed_next, kept_start, kept_next}
 use Rattle.chart_rules.proofs.Output.{first_sets, text_count, text_short}
 use Rattle.chart_rules.proofs.Answering.{refused_answer, full_answer, written_fine, written_length}
-use Rattle.std.specs.Prelude.{Option, Some, None}
-use Rattle.std.specs.Prelude.{Result, Ok, Err}
+use Rattle.std.specs.Prelude.{Option, Some, None, Result, Ok, Err}
 use Rattle.chart_rules.specs.declared.RefusedText.{RefusedText}
-
--- sample 1, or not
-one_or : (n : ℕ) (P : Type 0) → (n ≡ 1 → P) → ((n ≡ 1 → ⊥) → P) → P
-one_or n P f g = go (eqb n 1) refl
-  where
-    go : (b : Bool) → eqb n 1 ≡ b → P
-    go true e = f (eqb-true n 1 e)
-    go false e = g (eqb-false n 1 e)
 
 -- ---- a set under way is one that the chart accepts
 record Ready (c : Chart) (s : Gathered) : Type 0 where
@@ -51,7 +42,7 @@ accepts : (c : Chart) (s : Gathered) → sound c ≡ true → Ready c s → refu
 unfolding refusal_of
 accepts c s e r = rw (e, r.time, r.size, r.results)
 
-accepted_says : (c : Chart) (s : Gathered) → sound c ≡ true → Ready c s → (chart_says (result_of c s.week s.numbers 40).answer).number ≡ nothing
+accepted_says : (c : Chart) (s : Gathered) → sound c ≡ true → Ready c s → (chart_says (result_of c s.week s.numbers 40).answer).number ≡ None
 unfolding result_of decided accepted
 accepted_says c s e r = rw (accepts c s e r)
 
@@ -61,13 +52,7 @@ week_after c s e r = rw (accepts c s e r)
 
 size_ok : (k : ℕ) → 1 ≤ k → k ≤ 5 → bad_size (2 * k) ≡ false
 unfolding bad_size
-size_ok zero h l = absurd (omega arith)
-size_ok (suc zero) h l = refl
-size_ok (suc (suc zero)) h l = refl
-size_ok (suc (suc (suc zero))) h l = refl
-size_ok (suc (suc (suc (suc zero)))) h l = refl
-size_ok (suc (suc (suc (suc (suc zero))))) h l = refl
-size_ok (suc (suc (suc (suc (suc (suc k)))))) h l = absurd (omega arith)
+size_ok k h l = rw (ne_eqb (2 * k) 0 (omega arith), le-ltb 10 (2 * k) (omega arith), ne_eqb (2 * k % 2) 1 (omega arith))
 
 week_ok : (last week : ℕ) → last < week → week ≤ 9999 → bad_week last week ≡ false
 unfolding bad_week
@@ -94,7 +79,7 @@ charted_from c s sample (None ∷ ls) e r h n g = absurd g
 charted_from c s sample (Some v ∷ ls) e r h n g =
     let c' = (result_of c s.week s.numbers 40).chart in
     let fine = g.0 in
-    one_or v.sample _
+    ⊎_elim
     (λ one.
     let w = fine_start s.week sample v fine one in
     let soon : c'.week < v.week = omega (arith, week_after c s e r, w.0) in
@@ -114,6 +99,7 @@ charted_from c s sample (Some v ∷ ls) e r h n g =
     } in
     rw (closed_next s v other, kept_next s v other)
     (charted_from c t v.sample ls e ready (omega (arith, p.1)) (omega (arith, long, p.1)) g.1))
+    (cases_eq v.sample 1)
 
 none_empty : sets_of none [] ≡ []
 unfolding sets_of finished
@@ -129,13 +115,9 @@ charted_lines c (Some v ∷ ls) e z g =
     rw (first_sets v ls one)
     (charted_from c (joined none v) v.sample ls e (first_ready c 0 0 v (omega (arith, w.0)) w.1 g.0) (omega arith) (omega arith) g.1)
 
-fresh_sound : sound (fresh_chart 0) ≡ true
-unfolding open_of opening
-fresh_sound = stays_sound.opened 0
-
 good_accepted : (text : List ℕ) (room n : ℕ) → answer_of text room ≡ Ok n → AllCharted (fresh_chart 0) (text_sets text)
 unfolding text_sets
-good_accepted text room n e = charted_lines (fresh_chart 0) (value_lines text) fresh_sound refl (fine_text text (written_fine text room n e)).lines
+good_accepted text room n e = charted_lines (fresh_chart 0) (value_lines text) (fresh_sound 0 refl) refl (fine_text text (written_fine text room n e)).lines
 
 -- ---- the sets have all the lines' results
 results_append : (a b : List Gathered) → set_results (a ++ b) ≡ set_results a ++ set_results b
@@ -165,9 +147,10 @@ none_first s = refl
 -- what a line closes and what it keeps have all the results so far
 split : (s : Gathered) (v : ValueLine) → set_results (closed s v) ++ (kept s v).numbers ≡ s.numbers
 split s v =
-    one_or v.sample _
+    ⊎_elim
     (λ one. rw (closed_start s v one, kept_start s v one) (append-nil (set_results (finished s)) ∙ finished_results s))
     (λ other. rw (closed_next s v other, kept_next s v other) (none_first s))
+    (cases_eq v.sample 1)
 
 complete_from : (s : Gathered) (ls : List (Option ValueLine)) → set_results (sets_of s ls) ≡ s.numbers ++ line_results (lines_read ls)
 unfolding sets_of line_results lines_read
@@ -196,9 +179,10 @@ unfolding starts GoodLines
 few week sample [] h g = omega arith
 few week sample (None ∷ ls) h g = absurd g
 few week sample (Some v ∷ ls) h g =
-    one_or v.sample _
+    ⊎_elim
     (λ one. let w = fine_start week sample v g.0 one in omega (arith, one_or_none v.sample, w.0, few v.week v.sample ls w.1 g.1))
     (λ other. let w = (fine_next week sample v g.0 other).2 in omega (arith, not_one v.sample other, few v.week v.sample ls (omega arith) g.1))
+    (cases_eq v.sample 1)
 
 -- no check of a text by itself has number 22
 NotShort : Result (Unit {0}) RefusedText → Type 0
@@ -249,14 +233,11 @@ text_cases text P bad good = go (first_ruling (text_checks text)) refl (below_fi
         let j : judged text ≡ Err r = ap (λ (y : Result (Unit {0}) RefusedText). verdict y (starts (value_lines text))) e in
         subst P (sym (refused_answer text program_room r j)) (bad r n)
 
-some_same : (m n : ℕ) → some m ≡ some n → m ≡ n
-some_same m n e = cc
-
 pub program_fits : ProgramFits
 program_fits = record {
   never_short = λ text.
-      text_cases text (λ a. (text_says a).number ≡ some 22 → ⊥)
-      (λ r h e. omega (arith, some_same (text_number r.refusal) 22 e))
-      (λ e. let z : ◌≡◌ {A = ℕ} 0 1 = cc in omega arith);
+      text_cases text (λ a. (text_says a).number ≡ Some 22 → ⊥)
+      (λ r h e. let same : text_number r.refusal ≡ 22 = cc in omega arith)
+      (λ e. absurd cc);
   fits = λ text room n e. omega (arith, written_length text room n e, short_enough text (written_fine text room n e));
 }

@@ -2,12 +2,11 @@
 use mathlib.Core.Path.{◌≡◌, refl, ◌∙◌}
 use mathlib.Core.Bool.{cond, not}
 use mathlib.Core.List.{List}
-use mathlib.Core.Option.{some}
 use Prim.Native.Nat.{ℕ}
 use lib.IntN.{ℤ}
 use lib.ListN.{length}
 use Rattle.whole.proofs.ListLaws.{by_test}
-use Rattle.std.specs.Prelude.{Ok, Err}
+use Rattle.std.specs.Prelude.{Some, Ok, Err}
 use Rattle.chart_rules.specs.Sets.{set_of}
 use Rattle.chart_rules.specs.Rows.{row_exists}
 use Rattle.chart_rules.specs.Charts.{fresh_chart}
@@ -36,11 +35,11 @@ module _ (words : List ℤ) (week : ℕ) (numbers : List ℤ) where
   unfolding chart_set_in chart_set_of
   charted buffer = left_holds (length buffer)
 
-  untouched : (buffer : List ℕ) (n : ℕ) → (chart_says (chart_set_in words week numbers buffer).answer).number ≡ some n → (chart_set_in words week numbers buffer).places ≡ words
+  untouched : (buffer : List ℕ) (n : ℕ) → (chart_says (chart_set_in words week numbers buffer).answer).number ≡ Some n → (chart_set_in words week numbers buffer).places ≡ words
   unfolding chart_set_in chart_set_of accepted
   untouched buffer =
       call_cases (chart_at words) week numbers (length buffer)
-      (λ x. (n : ℕ) → (chart_says x.answer).number ≡ some n → left_by x.answer words week numbers ≡ words)
+      (λ x. (n : ℕ) → (chart_says x.answer).number ≡ Some n → left_by x.answer words week numbers ≡ words)
       (λ r n e. refl)
       (λ f n e. absurd cc)
 

@@ -7,14 +7,14 @@ use native.Mathlib.Omega.{arith}
 use lib.ListN.{length}
 use lib.Dec.{ltb, eqb}
 use borrow.Author.Tests.{ne_eqb, not-false}
-use Rattle.whole.proofs.ListLaws.{by_test}
+use Rattle.std.proofs.lemmas.Bool.{cond_both}
 use Rattle.chart_rules.specs.TextLines.{names_line, starts_with}
 use Rattle.chart_rules.specs.Judging.{first_ruling, line_checks, ruling, value_lines, lines_checks, text_checks, starts, verdict, judged}
 use Rattle.chart_rules.specs.Fine.{GoodLines}
 use Rattle.chart_rules.specs.declared.ValueLine.{ValueLine}
-use Rattle.chart_rules.proofs.Rulings.{otherwise, first_append, fine_head, fine_both, fine_line, fine_sample}
-use Rattle.std.specs.Prelude.{Option, Some, None}
-use Rattle.std.specs.Prelude.{Result, Ok, Err}
+use Rattle.chart_rules.proofs.Rulings.{otherwise, first_append, fine_both, fine_line, fine_sample}
+use Rattle.chart_rules.proofs.Fine.{fine_head}
+use Rattle.std.specs.Prelude.{Option, Some, None, Result, Ok, Err}
 use Rattle.chart_rules.specs.declared.RefusedText.{RefusedText}
 
 -- ---- lines in turn
@@ -26,7 +26,7 @@ first_lines week sample line v ls = first_append (line_checks week sample line v
 pub good_lines : (week sample line : ℕ) (ls : List (Option ValueLine)) → first_ruling (lines_checks week sample line ls) ≡ Ok tt → GoodLines week sample ls
 unfolding GoodLines
 good_lines week sample line [] e = tt
-good_lines week sample line (None ∷ ls) e = let z : ◌≡◌ {A = ℕ} 0 1 = cc in absurd (omega arith)
+good_lines week sample line (None ∷ ls) e = absurd cc
 good_lines week sample line (Some v ∷ ls) e =
     let p = fine_both (ruling week sample line v) _ (sym (first_lines week sample line v ls) ∙ e) in
     (fine_line week sample line v p.0, good_lines v.week v.sample (line + 1) ls p.1)
@@ -54,9 +54,9 @@ module _ (week sample sets line : ℕ) where
         λ i. verdict (g i) (n i)
 
 -- ---- a text that is good
-good_checks : (x : Result (Unit {0}) RefusedText) (sets n : ℕ) → verdict x sets ≡ Ok n → (x ≡ Ok tt) × (sets ≡ n)
+pub good_checks : (x : Result (Unit {0}) RefusedText) (sets n : ℕ) → verdict x sets ≡ Ok n → (x ≡ Ok tt) × (sets ≡ n)
 good_checks (Ok fine) sets n e = (refl, cc)
-good_checks (Err r) sets n e = let z : ◌≡◌ {A = ℕ} 0 1 = cc in absurd (omega arith)
+good_checks (Err r) sets n e = absurd cc
 
 module _ (text : List ℕ) (n : ℕ) (e : judged text ≡ Ok n) where
   pub good_fine : first_ruling (text_checks text) ≡ Ok tt
@@ -79,7 +79,7 @@ fine_text text e =
     record { names = not-false _ b.0; lines = good_lines 0 0 2 (value_lines text) b.1 }
 
 pub one_or_none : (sample : ℕ) → cond {A = ℕ} (eqb sample 1) 1 0 ≤ 1
-one_or_none sample = by_test (eqb sample 1) (λ t. cond {A = ℕ} t 1 0 ≤ 1) (λ e. omega arith) (λ e. omega arith)
+one_or_none sample = cond_both (eqb sample 1) 1 0 (λ k. k ≤ 1) (λ e. omega arith) (λ e. omega arith)
 
 -- before the first line no set was counted
 pub judge_start : (ls : List (Option ValueLine)) → verdict_at 0 0 0 2 ls ≡ verdict (first_ruling (lines_checks 0 0 2 ls)) (starts ls)

@@ -12,7 +12,6 @@ pub mod Numbers
 pub mod RoundTrip
 pub mod Fields
 pub mod Canonical
-pub mod Forward
 pub mod TextLines
 pub mod Rulings
 pub mod Judging

@@ -3,7 +3,6 @@ use mathlib.Core.Path.{◌≡◌, refl, subst}
 use mathlib.Core.List.{List}
 use mathlib.Core.Bool.{Bool, true, false, cond}
 use Prim.Native.Nat.{ℕ}
-use native.Mathlib.Omega.{arith}
 use lib.IntN.{ℤ, pos}
 use lib.ListN.{length}
 use lib.Dec.{eqb}
@@ -22,7 +21,7 @@ fifteen words = go (eqb (length words) 15) refl
   where
     go : (b : Bool) → eqb (length words) 15 ≡ b → row_exists (cond b (chart_in words) (fresh_chart 4294967295)).row ≡ true → length words ≡ 15
     go true e h = eqb-true (length words) 15 e
-    go false e h = let z : ◌≡◌ {A = ℕ} 0 1 = cc in absurd (omega arith)
+    go false e h = absurd cc
 
 pub held_place : (words : List ℤ) → length words ≡ 15 → natural (place words 2) ≡ (chart_at words).held
 unfolding chart_at chart_in

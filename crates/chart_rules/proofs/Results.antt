@@ -1,14 +1,13 @@
 -- The output line's length, and what a refused call leaves.
 use mathlib.Core.Path.{◌≡◌, refl}
 use mathlib.Core.List.{List}
-use mathlib.Core.Option.{some}
 use Prim.Native.Nat.{ℕ, ◌≤◌}
 use native.Mathlib.Omega.{arith}
 use lib.IntN.{ℤ}
 use lib.ListN.{length}
 use borrow.Author.Tests.{le-ltb}
 use Rattle.decimal.specs.Put.{overwritten}
-use Rattle.std.specs.Prelude.{Ok}
+use Rattle.std.specs.Prelude.{Some, Ok}
 use Rattle.chart_rules.specs.Sets.{set_of}
 use Rattle.chart_rules.specs.Lines.{values_of, line_of}
 use Rattle.chart_rules.specs.Refusals.{refusal_of}
@@ -63,7 +62,7 @@ charted_short c week numbers room a e =
 -- ---- a refused call
 -- what is to be shown of a call's result
 Untouched : Chart → List ℕ → ChartResult → Type 0
-Untouched c buffer r = (n : ℕ) → (chart_says r.answer).number ≡ some n → (r.chart ≡ c) × (overwritten (bytes_of r.answer) buffer ≡ buffer)
+Untouched c buffer r = (n : ℕ) → (chart_says r.answer).number ≡ Some n → (r.chart ≡ c) × (overwritten (bytes_of r.answer) buffer ≡ buffer)
 
 untouched : (c : Chart) (week : ℕ) (numbers : List ℤ) (room : ℕ) (buffer : List ℕ) → Untouched c buffer (result_of c week numbers room)
 unfolding Untouched accepted bytes_of

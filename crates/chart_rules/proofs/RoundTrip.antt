@@ -9,7 +9,8 @@ use native.Mathlib.Omega.{arith}
 use lib.ListN.{length}
 use borrow.Author.Tests.{lt-ltb, le-leb, ne_eqb}
 use Rattle.decimal.specs.Show.{show}
-use Rattle.decimal.proofs.Show.{lt_or_ge, show_small, show_step, length_step}
+use Rattle.std.proofs.lemmas.Bool.{cases_lt}
+use Rattle.decimal.proofs.Show.{show_small, show_step, length_step}
 use Rattle.chart_rules.specs.TextLines.{is_digit, digits, number}
 use Rattle.std.specs.Prelude.{Some}
 
@@ -49,7 +50,7 @@ shown_read (suc k) n i cs h p l =
     ∙ digits_digit (n / 10) (n % 10) (i + m) cs (omega arith) (omega arith)
     ∙ ap (λ (v : ℕ). digits v (i + m + 1) cs) whole
     ∙ ap (λ (j : ℕ). digits n j cs) place)
-    (lt_or_ge n 10)
+    (cases_lt n 10)
 
 -- the bytes begin with a digit
 abbrev pub leads : List ℕ → Bool

@@ -1,19 +1,25 @@
 -- Lists of checks, and what is known of a line that is fine.
 use mathlib.Core.Path.{◌≡◌, refl}
-use mathlib.Core.Bool.{Bool, true, false, not, ◌&&◌, ◌||◌, cond, false≢true}
+use mathlib.Core.Bool.{true, not, ◌||◌, cond}
+use mathlib.Core.Logic.{⊎_elim}
 use mathlib.Core.List.{List, [], ◌∷◌, ◌++◌}
 use Prim.Native.Nat.{ℕ, ◌+◌, ◌≤◌, ◌<◌}
 use native.Mathlib.Omega.{arith}
 use lib.IntN.{pos}
 use lib.Dec.{eqb}
 use borrow.Author.Tests.{leb-true, eqb-true, eqb-false, not-true, not-false}
+use Rattle.std.proofs.lemmas.Bool.{or_cases}
+use Rattle.std.proofs.lemmas.Int.{ints}
+use Rattle.std.proofs.lemmas.List.Elements.{All-head, All-tail}
+use Rattle.whole.specs.Bounds.{Within}
 use Rattle.whole.specs.Lists.{Check}
 use Rattle.whole.proofs.Tests.{and_both}
 use Rattle.whole.proofs.ListLaws.{by_test}
 use Rattle.chart_rules.specs.Judging.{first_ruling, is_next, is_start, ruling}
 use Rattle.chart_rules.specs.Fine.{FineLine}
 use Rattle.chart_rules.specs.declared.ValueLine.{ValueLine}
-use Rattle.chart_rules.proofs.Bounds.{each_inside, week_facts}
+use Rattle.chart_rules.proofs.Fine.{fine_head}
+use Rattle.chart_rules.proofs.Bounds.{results_inside, week_facts}
 use Rattle.std.specs.Prelude.{Result, Ok, Err}
 use Rattle.chart_rules.specs.declared.RefusedText.{RefusedText}
 
@@ -30,15 +36,11 @@ first_append (c ∷ a) b =
     (λ t. cond t (Err c.answer) (first_ruling (a ++ b)) ≡ otherwise (cond t (Err c.answer) (first_ruling a)) (first_ruling b))
     (λ e. refl) (λ e. first_append a b)
 
--- none of a list's checks applies
-pub fine_head : (t : Bool) (r : RefusedText) (rest : Result (Unit {0}) RefusedText) → cond t (Err r) rest ≡ Ok tt → (t ≡ false) × (rest ≡ Ok tt)
-fine_head true r rest e = let z : ◌≡◌ {A = ℕ} 0 1 = cc in absurd (omega arith)
-fine_head false r rest e = (refl, e)
-
+-- none of two lists' checks applies
 pub fine_both : (x y : Result (Unit {0}) RefusedText) → otherwise x y ≡ Ok tt → (x ≡ Ok tt) × (y ≡ Ok tt)
 unfolding otherwise
 fine_both (Ok fine) y e = (refl, e)
-fine_both (Err r) y e = let z : ◌≡◌ {A = ℕ} 0 1 = cc in absurd (omega arith)
+fine_both (Err r) y e = absurd cc
 
 -- ---- a line that is fine
 pub fine_line : (week sample line : ℕ) (v : ValueLine) → ruling week sample line v ≡ Ok tt → FineLine week sample v
@@ -48,15 +50,6 @@ fine_line week sample line v e =
     let b = fine_head _ _ _ a.1 in
     let d = fine_head _ _ _ b.1 in
     record { place = not-false _ a.0; time = b.0; results = d.0 }
-
--- one of two tests passes
-or_cases : (a b : Bool) (P : Type 0) → a || b ≡ true → (a ≡ true → P) → (b ≡ true → P) → P
-or_cases true b P e f g = f refl
-or_cases false b P e f g = g e
-
-and_no : (a b : Bool) → a && b ≡ false → a ≡ true → b ≡ false
-and_no true b e t = e
-and_no false b e t = absurd (false≢true t)
 
 next_facts : (week sample : ℕ) (v : ValueLine) → is_next week sample v ≡ true → (sample ≡ 0 → ⊥) × (v.week ≡ week) × (v.sample ≡ sample + 1) × (v.sample ≤ 5)
 unfolding is_next
@@ -72,30 +65,38 @@ start_facts week sample v e = eqb-true v.sample 1 (and_both (eqb sample 0 || not
 
 module _ (week sample : ℕ) (v : ValueLine) (f : FineLine week sample v) where
   pub fine_results : (v.original ≤ 10000) × (v.monitor ≤ 10000)
-  fine_results = let r = each_inside (pos v.original ∷ pos v.monitor ∷ []) f.results in (r.0.under, r.1.0.under)
+  fine_results =
+      let r = results_inside (pos v.original ∷ pos v.monitor ∷ []) f.results in
+      let original = All-head (Within 0 10000) (pos v.original) (pos v.monitor ∷ []) r in
+      let monitor = All-head (Within 0 10000) (pos v.monitor) [] (All-tail (Within 0 10000) (pos v.original) (pos v.monitor ∷ []) r) in
+      (omega (arith, ints, original.under), omega (arith, ints, monitor.under))
 
   -- a line that goes on with its set
   pub fine_next : (v.sample ≡ 1 → ⊥) → (sample < 5) × (v.sample ≡ sample + 1) × (v.week ≡ week)
   fine_next ne =
-      or_cases (is_next week sample v) (is_start week sample v) _ f.place
+      ⊎_elim
       (λ n. let p = next_facts week sample v n in (omega (arith, p.2, p.3), p.2, p.1))
       (λ s. absurd (ne (start_facts week sample v s)))
+      (or_cases (is_next week sample v) (is_start week sample v) f.place)
 
   -- a line that starts one
   pub fine_start : v.sample ≡ 1 → (week < v.week) × (v.week ≤ 9999)
   fine_start one =
-      or_cases (is_next week sample v) (is_start week sample v) _ f.place
+      ⊎_elim
       (λ n. let p = next_facts week sample v n in absurd (p.0 (omega (arith, p.2))))
-      (λ s. week_facts week v.week (and_no _ _ f.time s))
+      (λ s. week_facts week v.week (rw s at f.time))
+      (or_cases (is_next week sample v) (is_start week sample v) f.place)
 
   pub fine_sample : v.sample ≤ 5
   fine_sample =
-      or_cases (is_next week sample v) (is_start week sample v) _ f.place
+      ⊎_elim
       (λ n. (next_facts week sample v n).3)
       (λ s. omega (arith, start_facts week sample v s))
+      (or_cases (is_next week sample v) (is_start week sample v) f.place)
 
 pub fine_first : (week : ℕ) (v : ValueLine) → FineLine week 0 v → v.sample ≡ 1
 fine_first week v f =
-    or_cases (is_next week 0 v) (is_start week 0 v) _ f.place
+    ⊎_elim
     (λ n. absurd ((next_facts week 0 v n).0 refl))
     (λ s. start_facts week 0 v s)
+    (or_cases (is_next week 0 v) (is_start week 0 v) f.place)

@@ -10,9 +10,9 @@ use borrow.Author.Tests.{lt-ltb, le-ltb}
 use Rattle.chart_rules.specs.TextLines.{LineRead, line_at}
 use Rattle.chart_rules.specs.Judging.{and_then, lines_from, lines_at}
 use Rattle.chart_rules.specs.declared.ValueLine.{ValueLine}
-use Rattle.chart_rules.proofs.Forward.{line_forward}
+use Rattle.chart_rules.proofs.Canonical.{line_forward}
 use mathlib.Core.Logic.{⊎_elim}
-use Rattle.decimal.proofs.Show.{lt_or_ge}
+use Rattle.std.proofs.lemmas.Bool.{cases_lt}
 use Rattle.std.specs.Prelude.{Option, Some, None}
 
 none_left : (k : ℕ) (text : List ℕ) (at : ℕ) → length text ≤ at → lines_from k text at ≡ []
@@ -63,7 +63,7 @@ few_from (suc k) text at =
     ⊎_elim
     (λ i. rw (lt-ltb at (length text) i) (few_then k (lines_from k text) (few_from k text) (line_at text at)))
     (λ e. rw (le-ltb at (length text) e) (omega arith))
-    (lt_or_ge at (length text))
+    (cases_lt at (length text))
 
 -- a text has no more lines than bytes
 pub lines_few : (text : List ℕ) (at : ℕ) → length (lines_at text at) ≤ length text

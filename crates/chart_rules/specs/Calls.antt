@@ -1,6 +1,5 @@
 -- docs/SPECIFICATION.md, "Control charts" and "Refused calls": opening a chart, and the call that charts one set (chart, week, pairs, buffer).
-use Rattle.std.specs.Prelude.{ℕ, not, List, [], ◌∷◌, ◌++◌, ℤ, pos, length, Result, Ok, Err}
-use Rattle.std.proofs.Math.Option.{none, some}
+use Rattle.std.specs.Prelude.{ℕ, not, List, [], ◌∷◌, ◌++◌, ℤ, pos, length, Some, None, Result, Ok, Err}
 use Rattle.whole.specs.Lists.{Check}
 use Rattle.whole.specs.Says.{Says}
 use Rattle.decimal.specs.Put.{overwritten}
@@ -77,10 +76,10 @@ chart_set_of c week numbers buffer =
 
 -- an opening has no values
 abbrev pub open_says : Result (Unit {0}) Refusal → Says
-open_says (Ok done) = record { number = none; values = [] }
-open_says (Err r) = record { number = some (number_of r); values = [] }
+open_says (Ok done) = record { number = None; values = [] }
+open_says (Err r) = record { number = Some (number_of r); values = [] }
 
 -- the output line's nine fields, and its length
 abbrev pub chart_says : Result Charted Refusal → Says
-chart_says (Ok charted) = record { number = none; values = fields charted.values ++ (pos charted.length ∷ []) }
-chart_says (Err r) = record { number = some (number_of r); values = [] }
+chart_says (Ok charted) = record { number = None; values = fields charted.values ++ (pos charted.length ∷ []) }
+chart_says (Err r) = record { number = Some (number_of r); values = [] }

@@ -1,6 +1,5 @@
 -- What the chart's rules and calls promise besides the calls' contracts.
 use Rattle.std.specs.Prelude.{ℕ, ◌+◌, ◌≤◌, ◌<◌, ◌≡◌, true, false, List, [], ◌∷◌, ◌++◌, map, ℤ, pos, ◌*ℤ◌, length, take, drop, Option, Some, None, Ok}
-use Rattle.std.proofs.Math.Option.{none, some}
 use Rattle.chart_rules.specs.Rows.{row_exists}
 use Rattle.chart_rules.specs.Run.{sixtieths}
 use Rattle.chart_rules.specs.Charts.{past_of, sound, fresh_chart, next_chart}
@@ -35,15 +34,15 @@ pub record StaysSound : Type 0 where
 
 -- an opening answers 1 exactly where the row doesn't exist
 pub record OpenedExactly : Type 0 where
-  pub opened : (row : ℕ) → row_exists row ≡ true → (open_says (open_of row).answer).number ≡ none
-  pub refused : (row : ℕ) → row_exists row ≡ false → (open_says (open_of row).answer).number ≡ some 1
+  pub opened : (row : ℕ) → row_exists row ≡ true → (open_says (open_of row).answer).number ≡ None
+  pub refused : (row : ℕ) → row_exists row ≡ false → (open_says (open_of row).answer).number ≡ Some 1
 
 -- a refused call writes nothing and hands back the chart
 pub record RefusedUntouched : Type 0 where
   pub chart : (c : Chart) (week : ℕ) (numbers : List ℤ) (buffer : List ℕ) (n : ℕ)
-      → (chart_says (chart_set_of c week numbers buffer).result.answer).number ≡ some n → (chart_set_of c week numbers buffer).result.chart ≡ c
+      → (chart_says (chart_set_of c week numbers buffer).result.answer).number ≡ Some n → (chart_set_of c week numbers buffer).result.chart ≡ c
   pub buffer : (c : Chart) (week : ℕ) (numbers : List ℤ) (buffer : List ℕ) (n : ℕ)
-      → (chart_says (chart_set_of c week numbers buffer).result.answer).number ≡ some n → (chart_set_of c week numbers buffer).buffer ≡ buffer
+      → (chart_says (chart_set_of c week numbers buffer).result.answer).number ≡ Some n → (chart_set_of c week numbers buffer).buffer ≡ buffer
 
 -- a line has at most 40 bytes, so a buffer that isn't refused holds it
 pub record LineFits : Type 0 where
@@ -72,7 +71,7 @@ pub record HeldInPlace : Type 0 where
   pub charted : (words : List ℤ) (week : ℕ) (numbers : List ℤ) (buffer : List ℕ)
       → chart_at (chart_set_in words week numbers buffer).places ≡ (result_of (chart_at words) week numbers (length buffer)).chart
   pub refused : (words : List ℤ) (week : ℕ) (numbers : List ℤ) (buffer : List ℕ) (n : ℕ)
-      → (chart_says (chart_set_in words week numbers buffer).answer).number ≡ some n → (chart_set_in words week numbers buffer).places ≡ words
+      → (chart_says (chart_set_in words week numbers buffer).answer).number ≡ Some n → (chart_set_in words week numbers buffer).places ≡ words
 
 -- ---- a chart text: what is read is what was written
 
@@ -119,7 +118,7 @@ unfoldable pub AllCharted : Chart → List Gathered → Type 0
 AllCharted c [] = Unit {0}
 AllCharted c (s ∷ sets) =
     let r = result_of c s.week s.numbers 40 in
-    ((chart_says r.answer).number ≡ none) × AllCharted r.chart sets
+    ((chart_says r.answer).number ≡ None) × AllCharted r.chart sets
 
 -- the results of some sets, and of some lines, in their order
 unfoldable pub set_results : List Gathered → List ℤ
@@ -137,7 +136,7 @@ pub record GoodCharted : Type 0 where
 
 -- ---- a refused text writes nothing
 abbrev pub TextUntouched : Type 0
-TextUntouched = (text buffer : List ℕ) (n : ℕ) → (text_says (chart_text_of text buffer).answer).number ≡ some n → (chart_text_of text buffer).buffer ≡ buffer
+TextUntouched = (text buffer : List ℕ) (n : ℕ) → (text_says (chart_text_of text buffer).answer).number ≡ Some n → (chart_text_of text buffer).buffer ≡ buffer
 
 -- ---- the program's buffer
 
@@ -147,5 +146,5 @@ program_room = 400000
 
 -- the program never answers 22, and no output is longer than its buffer, whatever buffer it was written to
 pub record ProgramFits : Type 0 where
-  pub never_short : (text : List ℕ) → (text_says (answer_of text program_room)).number ≡ some 22 → ⊥
+  pub never_short : (text : List ℕ) → (text_says (answer_of text program_room)).number ≡ Some 22 → ⊥
   pub fits : (text : List ℕ) (room n : ℕ) → answer_of text room ≡ Ok n → n ≤ program_room

@@ -1,6 +1,5 @@
 -- docs/SPECIFICATION.md, "Control charts": the output for a whole text, its sets charted in turn, which is the chart call's own rule over them.
-use Rattle.std.specs.Prelude.{ℕ, ◌+◌, ◌*◌, List, [], ◌∷◌, ◌++◌, pos, length, ltb, Result, Ok, Err}
-use Rattle.std.proofs.Math.Option.{none as nothing, some}
+use Rattle.std.specs.Prelude.{ℕ, ◌+◌, ◌*◌, List, [], ◌∷◌, ◌++◌, pos, length, ltb, Some, None, Result, Ok, Err}
 use Rattle.whole.specs.Lists.{Check}
 use Rattle.whole.specs.Says.{Says}
 use Rattle.decimal.specs.Bytes.{bytes}
@@ -77,5 +76,5 @@ chart_text_of text buffer =
 
 -- the written length; or the refusal's number, and the text line
 abbrev pub text_says : Result ℕ RefusedText → Says
-text_says (Ok n) = record { number = nothing; values = pos n ∷ [] }
-text_says (Err r) = record { number = some (text_number r.refusal); values = pos r.line ∷ [] }
+text_says (Ok n) = record { number = None; values = pos n ∷ [] }
+text_says (Err r) = record { number = Some (text_number r.refusal); values = pos r.line ∷ [] }

@@ -132,7 +132,7 @@ pub enum Refusal {
     ShortBuffer,
 }
 
-// A refusal's number.
+// A refusal's number: by a match, as a station's.
 impl From<Refusal> for u32 {
     ghost from_gives = { λ refusal n. n ≡ number_of refusal };
 
@@ -178,7 +178,7 @@ pub enum TextRefusal {
     ShortBuffer,
 }
 
-// A refusal's number.
+// A refusal's number: by a match, as a station's.
 impl From<TextRefusal> for u32 {
     ghost from_gives = { λ refusal n. n ≡ text_number refusal };
 
@@ -200,4 +200,16 @@ impl From<TextRefusal> for u32 {
 pub struct RefusedText {
     pub refusal: TextRefusal,
     pub line: u32,
+}
+
+impl TextRefusal {
+    // The refusal with its text line.
+    pub fn at_line(self, line: u32) -> RefusedText
+        ensures { result ≡ record { refusal = self; line = line } }
+    {
+        RefusedText {
+            refusal: self,
+            line,
+        }
+    }
 }

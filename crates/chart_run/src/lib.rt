@@ -2,10 +2,8 @@
 
 #![tactic(auto)]
 
-ghost use Rattle.std.specs.Prelude.{◌≡◌, map, ◌≤◌, take};
+ghost use Rattle.std.specs.Prelude.{◌≡◌, take};
 ghost use Rattle.whole.specs.Bounds.{Within};
-ghost use Rattle.whole.specs.Lists.{total};
-ghost use Rattle.chart_sets.specs.Fits.{SetFits, AllFit};
 ghost use Rattle.chart_rules.specs.Run.{sixtieths as sixtieths_of, one_side, run_by, run as run_of};
 
 use chart_rules::ChartSet;
@@ -17,29 +15,27 @@ fn one_side(four: &[ChartSet; 4]) -> bool
     four.iter().all(|s| 0 < s.sum) || four.iter().all(|s| s.sum < 0)
 }
 
-// Sixty times the set's average.
-fn sixtieths(s: ChartSet) -> i32
-    requires { SetFits s }
-    ensures { (result ≡ sixtieths_of s) × Within 3000000 3000000 result }
+// Sixty times the set's average; 0 for a set without pairs, which no sound chart holds.
+#[tactic(auto, unfolding(chart_rules::specs::Run::sixtieths))]
+fn sixtieths(s: ChartSet) -> i64
+    ensures { (result ≡ sixtieths_of s) × Within 128849018880 128849018880 result }
 {
-    s.sum * (60 / s.count) as i32
+    i64::from(s.sum) * i64::from(60_u32.checked_div(s.count).unwrap_or(0))
 }
 
 // Four sets are a run.
 #[tactic(auto, unfolding(chart_rules::specs::Run::run_by))]
 fn run_by(limit: u32, four: &[ChartSet; 4]) -> bool
-    requires { (limit ≤ 1000) × AllFit four.now }
     ensures { result ≡ run_by limit four.now }
 {
     let [s, p, q, w] = *four;
     let sum = sixtieths(s) + sixtieths(p) + sixtieths(q) + sixtieths(w);
-    one_side(four) && 240 * limit < sum.unsigned_abs()
+    one_side(four) && 240 * u64::from(limit) < sum.unsigned_abs()
 }
 
-// This set and any three of the four before it, newest first, or of all where they are fewer.
+// This set and any three of the four before it, newest first, or of all where they are fewer. It is handed the three and no `Judged`: that is of chart_limits, which needs no run.
 #[tactic(auto, unfolding(chart_rules::specs::Run::run))]
 pub fn run(limit: u32, s: ChartSet, past: &[ChartSet]) -> bool
-    requires { (limit ≤ 1000) × (SetFits s × AllFit past.now) }
     ensures { result ≡ run_of limit s (take 4 past.now) }
 {
     match *past {

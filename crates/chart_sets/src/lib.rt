@@ -9,7 +9,8 @@ ghost use Rattle.chart_rules.specs.Charts.{sound_set};
 
 use chart_rules::{ChartSet, LARGEST_RANGE, LARGEST_RESULT, MOST_PAIRS};
 
-// The set of some results, original and monitor in turn, to which neither 20 nor 21 applies.
+// The set of some results, original and monitor in turn, to which neither 20 nor 21 applies: one pass for sum, largest and smallest, where a chain for each would take the pairs three times.
+#[tactic(auto, unfolding(chart_rules::specs::Refusals::bad_size))]
 pub fn set_of(numbers: &[i32]) -> ChartSet
     requires { (bad_size (length numbers.now) ≡ false) × (bad_result numbers.now ≡ false) }
     ensures { result ≡ set_of numbers.now }

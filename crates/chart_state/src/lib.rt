@@ -6,7 +6,6 @@ ghost use Rattle.std.specs.Prelude.{◌≡◌, ◌+◌, ◌<◌, ◌≤◌, leng
 ghost use Rattle.whole.specs.Places.{place, natural};
 ghost use Rattle.chart_rules.specs.Charts.{sound as sound_of, fresh_chart};
 ghost use Rattle.chart_rules.specs.Places.{chart_set_at, chart_at, fresh_places, next_places};
-ghost use Rattle.chart_sets.specs.Fits.{SetFits};
 
 use chart_rules::{
     CHART_PLACES, Chart, ChartSet, FIRST_SET, HELD_PLACE, HELD_SETS, LAST_WEEK, NO_ROW, ROW_PLACE,
@@ -14,7 +13,7 @@ use chart_rules::{
 };
 use whole::held;
 
-// Where the sets after the newest stand.
+// Where the sets after the newest stand, in a chart's places; a line's stand likewise in its own.
 const SECOND_SET: usize = FIRST_SET + held::SET_PLACES;
 
 const THIRD_SET: usize = SECOND_SET + held::SET_PLACES;
@@ -36,7 +35,7 @@ fn set_at(state: &[i32], at: usize) -> ChartSet
     }
 }
 
-// A chart that holds no set. The row is a number, as C hands it in and the places hold it.
+// A chart that holds no set.
 fn fresh_chart(row: u32) -> Chart
     ensures { result ≡ fresh_chart row }
 {
@@ -98,10 +97,10 @@ pub fn put_fresh(state: &mut [i32; CHART_PLACES], row: u32)
     state[ROW_PLACE] = row.cast_signed();
 }
 
-// The chart after a set: one more is held, and the other sets' places move on as they are.
+// The chart after a set: one more is held, and the other sets' places move on as they are. What is written fits an i32.
 pub fn put_next(state: &mut [i32], week: u32, s: ChartSet)
     requires state_len { (length state.old ≡ 15) × (natural (place state.old 2) ≤ 4) }
-    requires week_bound { (week ≤ 9999) × SetFits s }
+    requires fits { (week < 2147483648) × ((s.count < 2147483648) × (s.range < 2147483648)) }
     ensures { state.new ≡ next_places state.old week s }
 {
     let held = held::one_more(state[HELD_PLACE].cast_unsigned());

@@ -1,22 +1,13 @@
 -- The laws of `show`: its two cases, and how long it is.
-use mathlib.Core.Path.{◌≡◌, refl, sym, ap, ◌∙◌}
-use mathlib.Core.Bool.{Bool, true, false}
-use mathlib.Core.Logic.{◌⊎◌, inl, inr, ⊎_elim}
+use mathlib.Core.Path.{◌≡◌, sym, ap, ◌∙◌}
+use mathlib.Core.Logic.{⊎_elim}
 use mathlib.Core.List.{List, [], ◌∷◌, ◌++◌}
 use Prim.Native.Nat.{ℕ, zero, suc, ◌+◌, ◌*◌, ◌/◌, ◌%◌, ◌≤◌, ◌<◌}
 use native.Mathlib.Omega.{arith}
 use lib.ListN.{length, length-append}
-use lib.Dec.{ltb}
-use borrow.Author.Tests.{lt-ltb, le-ltb, ltb-true, ltb-false}
+use borrow.Author.Tests.{lt-ltb, le-ltb}
+use Rattle.std.proofs.lemmas.Bool.{cases_lt}
 use Rattle.decimal.specs.Show.{shown, show}
-
--- below, or not
-pub lt_or_ge : (a b : ℕ) → (a < b) ⊎ (b ≤ a)
-lt_or_ge a b = go (ltb a b) refl
-  where
-    go : (t : Bool) → ltb a b ≡ t → (a < b) ⊎ (b ≤ a)
-    go true e = inl (ltb-true a b e)
-    go false e = inr (ltb-false a b e)
 
 pub shown_small : (k n : ℕ) → n < 10 → shown (suc k) n ≡ (48 + n) ∷ []
 unfolding shown
@@ -34,7 +25,7 @@ shown_same (suc j) (suc k) n h l =
     ⊎_elim
     (λ s. shown_small j n s ∙ sym (shown_small k n s))
     (λ s. shown_step j n s ∙ ap (λ (l : List ℕ). l ++ ((48 + n % 10) ∷ [])) (shown_same j k (n / 10) (omega arith) (omega arith)) ∙ sym (shown_step k n s))
-    (lt_or_ge n 10)
+    (cases_lt n 10)
 
 pub show_small : (n : ℕ) → n < 10 → show n ≡ (48 + n) ∷ []
 unfolding show
@@ -53,7 +44,7 @@ longer b w one short n h =
     ⊎_elim
     (λ s. omega (arith, ap length (show_small n s)))
     (λ s. omega (arith, length_step n s, short (n / 10) (omega arith)))
-    (lt_or_ge n 10)
+    (cases_lt n 10)
 
 pub width_1 : (n : ℕ) → n < 10 → length (show n) ≤ 1
 width_1 n h = omega (arith, ap length (show_small n h))

@@ -1,5 +1,5 @@
 -- For the proofs of the code, no rule: what a sound station's line gives, so that nothing wraps (docs/SPECIFICATION.md, "Refused calls").
-use Rattle.std.specs.Prelude.{ℕ, ◌≤◌, ◌<◌, T, take}
+use Rattle.std.specs.Prelude.{◌≤◌, ◌<◌, T, take}
 use Rattle.whole.specs.Bounds.{Within}
 use Rattle.station_rules.specs.Soundness.{days_fall}
 use Rattle.line_past.specs.Ranges.{Held}
@@ -10,8 +10,7 @@ pub record LineFits (l : Line) : Type 0 where
   pub small : Within 1000 1000 l.intercept
   pub room : l.held ≤ 4
   pub held : Held l.held l.past
-  pub last : ℕ
-  pub falls : T (days_fall last (take l.held l.past))
+  pub falls : T (days_fall 99999 (take l.held l.past))
 
 -- a set whose numbers a place holds
 pub record SetFits (p : PastSet) : Type 0 where

@@ -2,14 +2,14 @@
 
 #![tactic(auto)]
 
-ghost use Rattle.std.specs.Prelude.{◌≡◌, ◌+◌, ◌<◌, ◌≤◌, length, pos};
+ghost use Rattle.std.specs.Prelude.{◌≡◌, ◌+◌, ◌<◌, ◌≤◌, length, pos, take};
 ghost use Rattle.whole.specs.Bounds.{Within};
 ghost use Rattle.whole.specs.Places.{place};
 ghost use Rattle.station_rules.specs.Places.{set_at, line_in};
 ghost use Rattle.station_rules.specs.InPlace.{joined_places, opened_places, sheet_line, repaired_places};
 ghost use Rattle.station_rules.specs.Lines.{change_of};
 ghost use Rattle.station_rules.specs.Held.{phase_word, phase_said};
-ghost use Rattle.line.specs.Ranges.{SetFits};
+ghost use Rattle.line.specs.Ranges.{LineFits, SetFits};
 ghost use Rattle.line.specs.Written.{emptied, closed_with};
 
 use station_rules::{
@@ -18,16 +18,39 @@ use station_rules::{
 };
 use whole::held;
 
-// Where the sets after the newest stand.
+// Where the sets after the newest stand, in a line's places; a chart's stand likewise in its own.
 const SECOND_SET: usize = FIRST_SET + held::SET_PLACES;
 
 const THIRD_SET: usize = SECOND_SET + held::SET_PLACES;
 
 const FOURTH_SET: usize = THIRD_SET + held::SET_PLACES;
 
+// A sound station's line.
+#[derive(Clone, Copy)]
+pub struct SoundLine {
+    pub line: Line,
+    pub ghost fits: { LineFits line },
+}
+
+impl SoundLine {
+    // Its past sets, newest first.
+    pub fn past(&self) -> &[PastSet]
+        ensures { result.now ≡ take self.now.line.held self.now.line.past }
+    {
+        &self.line.past[..self.line.held as usize]
+    }
+}
+
+// A past set whose numbers the places hold.
+#[derive(Clone, Copy)]
+pub struct HeldSet {
+    pub set: PastSet,
+    pub ghost fits: { SetFits set },
+}
+
 // ---- read
 
-// The past set whose three places begin there. A chart's set stands in three places too, but is another struct: one function for both would hand back bare numbers.
+// The past set whose three places begin there. A chart's set stands in three places too, in another struct and order: From of three numbers would be these two bodies again.
 #[tactic(auto, using(whole::proofs::PlaceLaws::natural_bits))]
 pub fn set_at(part: &[i32], at: usize) -> PastSet
     requires { at + 3 ≤ length part.now }
@@ -40,7 +63,7 @@ pub fn set_at(part: &[i32], at: usize) -> PastSet
     }
 }
 
-// The phase stays a code and no enum: the places hold codes for the C interface, and an unsound station is read too.
+// The phase stays a code and no enum: the places hold codes for the C interface, and a line is read of any places.
 #[tactic(auto, using(whole::proofs::PlaceLaws::natural_bits), unfolding(station_rules::specs::Places::line_in))]
 pub fn line_in(part: &[i32]) -> Line
     requires { length part.now ≡ 15 }
@@ -59,24 +82,9 @@ pub fn line_in(part: &[i32]) -> Line
     }
 }
 
-// A part is a slice of 15 in each contract: callers lend a slice, and an array made of it here would add a branch that never runs.
+// A part is a slice of 15 in each contract, as callers lend it, and no array: std's as_chunks_mut doesn't say what the slice ends as, and as_mut_array is an Option that each caller had to unwrap.
 
 // ---- written after a sheet
-
-// The line is open and the set joins the past.
-fn join(part: &mut [i32], p: PastSet)
-    requires part_len { length part.old ≡ 15 }
-    requires part_bound { ((line_in part.old).held ≤ 4) × (SetFits p) }
-    ensures { part.new ≡ joined_places part.old p }
-{
-    let held = held::one_more(part[HELD_PLACE].cast_unsigned());
-    part[PHASE_PLACE] = OPEN_LINE as i32;
-    part[HELD_PLACE] = held as i32;
-    held::join(
-        &mut part[FIRST_SET..],
-        [p.day as i32, p.sum, p.count as i32],
-    );
-}
 
 // Nothing is held and the past is blank.
 fn empty(part: &mut [i32])
@@ -87,18 +95,19 @@ fn empty(part: &mut [i32])
     held::empty(&mut part[FIRST_SET..]);
 }
 
-// After a sheet that met every average due: the set joins the past, of a line whose check was due as its only one.
-fn open(part: &mut [i32], p: PastSet)
-    requires part_len { length part.old ≡ 15 }
-    requires part_bound { ((line_in part.old).held ≤ 4) × (SetFits p) }
-    ensures { part.new ≡ opened_places (phase_word (line_in part.old).phase) part.old p }
+// After a sheet that met every average due: the line is open, and the set joins the past, of a line whose check was due as its only one.
+fn open(part: &mut [i32], p: HeldSet)
+    requires { length part.old ≡ 15 }
+    ensures { part.new ≡ opened_places (phase_word (line_in part.old).phase) part.old p.set }
 {
-    if part[PHASE_PLACE].cast_unsigned() < ADJUSTED_LINE {
-        join(part, p);
-    } else {
+    if ADJUSTED_LINE <= part[PHASE_PLACE].cast_unsigned() {
         empty(part);
-        join(part, p);
     }
+    let held = held::one_more(part[HELD_PLACE].cast_unsigned());
+    part[PHASE_PLACE] = OPEN_LINE as i32;
+    part[HELD_PLACE] = held as i32;
+    let PastSet { day, sum, count } = p.set;
+    held::join(&mut part[FIRST_SET..], [day as i32, sum, count as i32]);
 }
 
 // After a sheet that didn't: its phase, and the change of the intercept. The phase is a code, as the places hold it for C.
@@ -113,11 +122,10 @@ fn close(part: &mut [i32], phase: u32, change: i32)
 }
 
 // After a sheet: its set, and what that did to the line.
-pub fn enter_sheet(part: &mut [i32], p: PastSet, v: Verdict)
+pub fn enter_sheet(part: &mut [i32], p: HeldSet, v: Verdict)
     requires part_len { length part.old ≡ 15 }
-    requires part_bound { ((line_in part.old).held ≤ 4) × (SetFits p) }
     requires within { (Within 1000 1000 (place part.old 0)) × (Within 2000000 2000000 (change_of v)) }
-    ensures { part.new ≡ sheet_line part.old p v }
+    ensures { part.new ≡ sheet_line part.old p.set v }
 {
     match v {
         Verdict::Met => open(part, p),

@@ -1,6 +1,5 @@
--- For the proofs of the code, no rule: the tests, limits and sums in whose ranges nothing wraps.
+-- For the proofs of the code, no rule: the tests and sums in whose ranges nothing wraps.
 use Rattle.std.specs.Prelude.{Some, None, Option, List, ℕ, ◌≤◌, length}
-use Rattle.station_rules.specs.declared.Limits.{Limits}
 use Rattle.station_rules.specs.declared.Set.{Set}
 use Rattle.station_rules.specs.declared.Test.{Test}
 use Rattle.station_rules.specs.declared.PastSet.{PastSet}
@@ -13,7 +12,6 @@ pub record Together (k : ℕ) (set : Set) : Type 0 where
 
 -- a test of at most five sets
 pub record TestFits (t : Test) : Type 0 where
-  pub limit : t.limit ≤ 1000
   pub sets : SetsOf 5 t.sum t.count
   pub some : 1 ≤ t.count
 
@@ -21,17 +19,8 @@ abbrev pub FoundFits : Option Test → Type 0
 FoundFits (Some t) = TestFits t
 FoundFits None = Unit {0}
 
--- the limits of the averages and of the check
-pub record Limited (l : Limits) : Type 0 where
-  pub one : l.one ≤ 1000
-  pub two : l.two ≤ 1000
-  pub three : l.three ≤ 1000
-  pub five : l.five ≤ 1000
-  pub check : l.check ≤ 1000
-
--- what the tests due of a set are made with: its limits, S and N, and the valid past sets
-pub record Due (limits : Limits) (set : Set) (valid : List PastSet) : Type 0 where
-  pub limited : Limited limits
+-- what the tests due of a set are made with: its S and N, and the valid past sets
+pub record Due (set : Set) (valid : List PastSet) : Type 0 where
   pub one : Together 1 set
   pub few : length valid ≤ 4
   pub held : Held (length valid) valid

@@ -2,7 +2,7 @@
 
 #![tactic(auto)]
 
-ghost use Rattle.std.specs.Prelude.{◌≡◌, [], ◌∷◌, ◌≤◌};
+ghost use Rattle.std.specs.Prelude.{◌≡◌, [], ◌∷◌};
 ghost use Rattle.std.specs.Result.{result_err as err};
 ghost use Rattle.station_rules.specs.Lines.{test_of, plus, first_exceeded, averages_due, tests_by};
 ghost use Rattle.station_rules.specs.Held.{phase_word};
@@ -24,10 +24,10 @@ fn plus(set: Set, p: PastSet) -> Set
 
 // The sets meet a limit, or the test is exceeded: |S| is above the limit times N.
 fn meet(limit: u32, set: Set) -> Result<(), Test>
-    requires { (limit ≤ 1000) × Together 5 set }
+    requires { Together 5 set }
     ensures { (err result ≡ first_exceeded (test_of limit set ∷ [])) × FoundFits (err result) }
 {
-    if limit * set.count < set.sum.unsigned_abs() {
+    if u64::from(limit) * u64::from(set.count) < u64::from(set.sum.unsigned_abs()) {
         return Err(Test {
             limit,
             sum: set.sum,
@@ -40,7 +40,7 @@ fn meet(limit: u32, set: Set) -> Result<(), Test>
 // The averages due of a new or open line's set: the set alone, the two together where one past set is valid, the three where two are, and the five where four
 // are and all lie on one side of zero.
 fn meet_averages(limits: Limits, set: Set, valid: &[PastSet]) -> Result<(), Test>
-    requires { Due limits set valid.now }
+    requires { Due set valid.now }
     ensures { (err result ≡ first_exceeded (averages_due limits set valid.now)) × FoundFits (err result) }
 {
     meet(limits.one, set)?;
@@ -65,7 +65,7 @@ fn meet_averages(limits: Limits, set: Set, valid: &[PastSet]) -> Result<(), Test
 
 // The first test exceeded of those due by the phase: the averages, or the check of an adjusted or shut line. The phase is a code, as the places hold it for C.
 pub fn first_exceeded(limits: Limits, phase: u32, set: Set, valid: &[PastSet]) -> Option<Test>
-    requires { Due limits set valid.now }
+    requires { Due set valid.now }
     ensures { (result ≡ first_exceeded (tests_by limits (phase_word phase) set valid.now)) × FoundFits result }
 {
     if phase < ADJUSTED_LINE {

@@ -21,10 +21,18 @@ five_and true true true false e = refl
 five_and true true true true e = and_true e
 
 -- the test of the set's side first
-pub by_side : (z : ℤ) (a b : Bool) → above z && a || below z && b ≡ cond (above z) a (below z && b)
+by_side : (z : ℤ) (a b : Bool) → above z && a || below z && b ≡ cond (above z) a (below z && b)
 by_side (pos zero) a b = refl
 by_side (pos (suc n)) a b = rw (lt-ltb 0 (suc n) (omega arith), le-ltb (suc n) 0 (omega arith)) (or_false a)
 by_side (negsuc n) a b = refl
+
+-- on a side that the set lies on, the past sets' test decides
+pub when_above : (z : ℤ) (a b : Bool) → above z ≡ true → above z && a || below z && b ≡ a
+when_above z a b e = rw (by_side, e) refl
+
+pub when_below : (z : ℤ) (a b : Bool) → below z ≡ true → above z && a || below z && b ≡ b
+when_below (pos n) a b e = let f = le-ltb n 0 (omega arith) in absurd cc
+when_below (negsuc n) a b e = refl
 
 -- of four past sets it is the rule's test of the five
 pub four_sides : (z : ℤ) (past : List PastSet) → length past ≡ 4

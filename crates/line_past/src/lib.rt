@@ -18,23 +18,9 @@ pub fn valid_count(day: u32, past: &[PastSet]) -> usize
         .count()
 }
 
-// The two sides stay two functions: with both `all` in `on_one_side` the proof doesn't close.
-fn all_above(past: &[PastSet]) -> bool
-    ensures { result ≡ all (λ p. above p.sum) past.now }
-{
-    past.iter().all(|p| 0 < p.sum)
-}
-
-fn all_below(past: &[PastSet]) -> bool
-    ensures { result ≡ all (λ p. below p.sum) past.now }
-{
-    past.iter().all(|p| p.sum < 0)
-}
-
 // Whether a set and past sets lie on one side of zero. Zero breaks it. Of four past sets it is the rule's test of the five (`four_sides` of SideLaws).
-#[tactic(auto, using(crate::proofs::SideLaws::by_side))]
 pub fn on_one_side(set: Set, past: &[PastSet]) -> bool
     ensures { result ≡ (above set.sum && all (λ p. above p.sum) past.now || below set.sum && all (λ p. below p.sum) past.now) }
 {
-    0 < set.sum && all_above(past) || set.sum < 0 && all_below(past)
+    0 < set.sum && past.iter().all(|p| 0 < p.sum) || set.sum < 0 && past.iter().all(|p| p.sum < 0)
 }

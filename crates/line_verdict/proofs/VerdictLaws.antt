@@ -22,13 +22,14 @@ use Rattle.line.specs.Ranges.{LineFits}
 
 module _ (limits : Limits) (l : Line) (day : ℕ) (set : Set) where
   -- the valid past sets are the newest k, so the test found among those is the rules'
-  pub judged_by : (k : ℕ) {f : Option Test} → (set.count ≡ 0 → ⊥) → LineFits l
-      → k ≡ length (valid_on day (take l.held l.past)) → f ≡ first_exceeded (tests_by limits (phase_word l.phase) set (take k (take l.held l.past)))
-      → judged l.intercept f ≡ verdict_of limits (line_values l) day set
+  pub judged_by : (k : ℕ) {f : Option Test} {past : List PastSet} → (set.count ≡ 0 → ⊥) → LineFits l
+      → k ≡ length (valid_on day past) → f ≡ first_exceeded (tests_by limits (phase_word l.phase) set (take k past))
+      → past ≡ take l.held l.past → judged l.intercept f ≡ verdict_of limits (line_values l) day set
   unfolding verdict_of
-  judged_by k h fits e g =
-      let past = take l.held l.past in
-      let v : take k past ≡ valid_on day past = ap (λ (n : ℕ). take n past) e ∙ sym (valid_first day fits.last past fits.falls) in
+  judged_by k {past = past} h fits e g p =
+      let held = take l.held l.past in
+      let counted : k ≡ length (valid_on day held) = e ∙ ap (λ (ps : List PastSet). length (valid_on day ps)) p in
+      let v : take k past ≡ valid_on day held = ap (take k) p ∙ ap (λ (n : ℕ). take n held) counted ∙ sym (valid_first day 99999 held fits.falls) in
       ap (judged l.intercept) (g ∙ ap (λ (ps : List PastSet). first_exceeded (tests_by limits (phase_word l.phase) set ps)) v)
       ∙ cond_no _ _ refl (ne_eqb set.count 0 h)
 

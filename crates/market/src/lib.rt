@@ -7,12 +7,13 @@ ghost use Rattle.std.specs.Prelude.{◌≡◌};
 ghost use Rattle.station_rules.specs.Held.{line_values};
 ghost use Rattle.station_rules.specs.Places.{station_in};
 ghost use Rattle.station_rules.specs.InPlace.{market_in};
-ghost use Rattle.line.specs.Ranges.{LineFits};
 ghost use Rattle.market.specs.Answers.{tested_of, answered_of};
 
-use station_rules::{Asked, BASIS_BOUND, Basis, Certificate, LARGEST, Line, Refusal, Scan};
+use market_figures::Corrected;
+use station_entry::Entry;
+use station_rules::{Asked, BASIS_BOUND, Basis, Certificate, LARGEST, Refusal, Scan};
 
-// What a call asks: a line's market test on a day.
+// What a call asks: a line's market test on a day. The exported functions hand these in one by one, as C does, and `market` makes one of them at once.
 #[derive(Clone, Copy)]
 struct Request {
     day: u32,
@@ -22,10 +23,10 @@ struct Request {
     basis: Basis,
 }
 
-// Numbers 8, 23, 24, 9 to 12, 25, 26, 13 and 14. The row is a number, as C hands it in and the places hold it.
-fn judge(row: u32, l: Line, request: &Request) -> Result<Certificate, Refusal>
-    requires { LineFits l }
-    ensures { result ≡ tested_of row (line_values l) request.now.day request.now.line request.now.scan request.now.asked request.now.basis }
+// Numbers 8, 23, 24, 9 to 12, 25, 26, 13 and 14, on the row and the line that numbers 0, 2 and 3 leave.
+#[tactic(auto, unfolding(crate::specs::Answers::judged_of), using(crate::proofs::JudgeLaws::judging))]
+fn judge(entry: Entry, request: &Request) -> Result<Certificate, Refusal>
+    ensures { result ≡ tested_of entry.row (line_values entry.sound.line) request.now.day request.now.line request.now.scan request.now.asked request.now.basis }
 {
     let Request {
         day,
@@ -34,6 +35,7 @@ fn judge(row: u32, l: Line, request: &Request) -> Result<Certificate, Refusal>
         asked,
         basis,
     } = *request;
+    let row = entry.row;
     let x = market_scan::pick(row, scan, asked, line).ok_or(Refusal::WrongScan)?;
     if market_asked::is_other_class(asked) {
         return Err(Refusal::GlutenClass);
@@ -47,29 +49,25 @@ fn judge(row: u32, l: Line, request: &Request) -> Result<Certificate, Refusal>
     if !market_figures::up_to(BASIS_BOUND, b) {
         return Err(Refusal::BadBasis);
     }
-    let i = market_asked::intercept_of(asked, l.intercept);
+    let i = market_asked::intercept_of(asked, entry.sound.line.intercept);
     let h = reading as i32 + i;
     if !market_figures::up_to(LARGEST, h) {
         return Err(Refusal::BadValue);
     }
-    market_certificate::certify(a, l, day, i, b, h)
+    let corrected = Corrected {
+        value: h.unsigned_abs(),
+        standard: a,
+        basis: b.unsigned_abs(),
+    };
+    market_certificate::certify(entry.sound, day, i, corrected)
 }
 
 // All numbers of a market test: 0, 2, 3, and those of the test.
 fn answer(state: &[i32], request: &Request) -> Result<Certificate, Refusal>
     ensures { result ≡ answered_of (station_in state.now) request.now.day request.now.line request.now.scan request.now.asked request.now.basis }
 {
-    if !station_soundness::is_sound(state) {
-        return Err(Refusal::UnsoundStation);
-    }
-    if station_soundness::is_bad_day(station_places::day_of(state), request.day) {
-        return Err(Refusal::BadDay);
-    }
-    let row = station_places::row_of(state);
-    if row_table::line_count(row) <= request.line {
-        return Err(Refusal::UnknownLine);
-    }
-    judge(row, station_places::line_of(state, request.line), request)
+    let entry = station_entry::judge_line(state, request.day, request.line)?;
+    judge(entry, request)
 }
 
 // A certificate moves the station's day, and nothing else is written; a refusal writes nothing.

@@ -4,7 +4,7 @@
 
 ghost use Rattle.std.specs.Prelude.{◌≡◌};
 ghost use Rattle.whole.specs.Bounds.{Within};
-ghost use Rattle.station_rules.specs.Markets.{basis_from, derived_intercept, asked_intercept, other_class, other_basis};
+ghost use Rattle.station_rules.specs.Markets.{basis_from, asked_intercept, other_class, other_basis};
 
 use station_rules::{Asked, Basis, GLUTEN_BASIS, GLUTEN_FACTOR, THOUSAND, WheatClass};
 
@@ -35,23 +35,14 @@ pub fn basis_from(row: u32, asked: Asked) -> u32
     }
 }
 
-// The gluten intercept, from the protein line's whole intercept.
-#[tactic(auto, unfolding(station_rules::specs::Markets::derived_intercept))]
-fn derived_intercept(intercept: i32) -> i32
-    requires { Within 1000 1000 intercept }
-    ensures { (result ≡ derived_intercept intercept) × Within 20000000 20000000 result }
-{
-    whole::rounded(intercept * GLUTEN_FACTOR, THOUSAND)
-}
-
-// The line's intercept, or gluten's.
-#[tactic(auto, unfolding(station_rules::specs::Markets::asked_intercept))]
+// The line's intercept, or gluten's, which is derived from the protein line's whole intercept.
+#[tactic(auto, unfolding(station_rules::specs::Markets::asked_intercept, station_rules::specs::Markets::derived_intercept))]
 pub fn intercept_of(asked: Asked, intercept: i32) -> i32
     requires { Within 1000 1000 intercept }
     ensures { (result ≡ asked_intercept asked intercept) × Within 20000000 20000000 result }
 {
     match asked {
         Asked::LineFigure => intercept,
-        Asked::Gluten(_) => derived_intercept(intercept),
+        Asked::Gluten(_) => whole::rounded(intercept * GLUTEN_FACTOR, THOUSAND),
     }
 }

@@ -25,15 +25,15 @@ opened open_line = Ok tt
 opened adjusted_line = Err AdjustedLine
 opened shut_line = Err ShutLine
 
--- numbers 12, 25, 26, 13 and 14, by a phase, A, the line's values, the day, B and h
-abbrev pub last_checks : LinePhase → ℕ → Values → ℕ → ℤ → ℤ → List (Check ℕ)
-last_checks phase a v day b h =
-    record { answer = 12; applies = is_new phase }
-    ∷ record { answer = 25; applies = is_adjusted phase }
-    ∷ record { answer = 26; applies = is_shut phase }
+-- numbers 12, 25, 26, 13 and 14, by A, the line's values, the day, B and h
+abbrev pub last_checks : ℕ → Values → ℕ → ℤ → ℤ → List (Check ℕ)
+last_checks a v day b h =
+    record { answer = 12; applies = is_new v.phase }
+    ∷ record { answer = 25; applies = is_adjusted v.phase }
+    ∷ record { answer = 26; applies = is_shut v.phase }
     ∷ record { answer = 13; applies = ltb (newest_day v.past + 7) day }
     ∷ record { answer = 14; applies = too_high a (nat_abs b) (nat_abs h) }
     ∷ []
 
 unfoldable pub certified_of : ℕ → Values → ℕ → ℤ → ℤ → ℤ → Result Certificate Refusal
-certified_of a v day i b h = answer_by (first_number (last_checks v.phase a v day b h)) (certificate_by a v i b h)
+certified_of a v day i b h = answer_by (first_number (last_checks a v day b h)) (certificate_by a v i b h)

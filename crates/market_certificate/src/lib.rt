@@ -2,14 +2,13 @@
 
 #![tactic(auto)]
 
-ghost use Rattle.std.specs.Prelude.{◌≡◌, true, ◌<◌};
+ghost use Rattle.std.specs.Prelude.{◌≡◌, pos};
 ghost use Rattle.station_rules.specs.Held.{phase_word, line_values};
-ghost use Rattle.station_rules.specs.Markets.{within};
-ghost use Rattle.whole.specs.Bounds.{Within};
-ghost use Rattle.line.specs.Ranges.{LineFits};
 ghost use Rattle.market_certificate.specs.Certified.{opened, certified_of};
 
-use station_rules::{ADJUSTED_LINE, Certificate, Line, NEW_LINE, NEWEST_DAYS, OPEN_LINE, Refusal};
+use line::SoundLine;
+use market_figures::Corrected;
+use station_rules::{ADJUSTED_LINE, Certificate, NEW_LINE, NEWEST_DAYS, OPEN_LINE, Refusal};
 
 // Numbers 12, 25 and 26: a line that isn't open is refused by its phase; there are no more than these four (number 0). The phase is a code, as the places hold it for C.
 fn check_open(phase: u32) -> Result<(), Refusal>
@@ -23,28 +22,25 @@ fn check_open(phase: u32) -> Result<(), Refusal>
     }
 }
 
-// By the intercept i, the basis B and the corrected value h. Always inlined: called, it would have the whole line copied for it.
+// By the line, the day, the intercept i that is in the corrected value, and that value. Always inlined: called, it would have the whole line copied for it.
 #[inline(always)]
-pub fn certify(a: u32, l: Line, day: u32, i: i32, b: i32, h: i32) -> Result<Certificate, Refusal>
-    requires a_bound { (a < 10000) × ((LineFits l) × (Within 20000000 20000000 i)) }
-    requires z_value { (within 0 5000 b ≡ true) × (within 0 10000 h ≡ true) }
-    ensures { result ≡ certified_of a (line_values l) day i b h }
+#[tactic(auto, unfolding(crate::specs::Certified::certified_of))]
+pub fn certify(l: SoundLine, day: u32, i: i32, corrected: Corrected) -> Result<Certificate, Refusal>
+    ensures { result ≡ certified_of corrected.standard (line_values l.line) day i (pos corrected.basis) (pos corrected.value) }
 {
-    check_open(l.phase)?;
-    let newest = market_figures::newest_day(&l.past[..l.held as usize]);
+    check_open(l.line.phase)?;
+    let newest = market_figures::newest_day(l.past());
     if newest < day.saturating_sub(NEWEST_DAYS) {
         return Err(Refusal::OldSet);
     }
-    let basis = b.unsigned_abs();
-    let value = h.unsigned_abs();
-    if market_figures::is_too_high(a, basis, value) {
+    if corrected.is_too_high() {
         return Err(Refusal::TooHigh);
     }
     Ok(Certificate {
         day: newest,
         intercept: i,
-        basis: b,
-        figure: market_figures::in_tenths(value),
-        converted: market_figures::in_tenths_at(a, basis, value),
+        basis: corrected.basis as i32,
+        figure: market_figures::in_tenths(corrected.value),
+        converted: corrected.in_tenths_at_basis(),
     })
 }

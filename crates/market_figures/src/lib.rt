@@ -19,15 +19,14 @@ pub fn basis_value(a: u32, basis: Basis) -> i32
     }
 }
 
-// A value of 0..high.
+// A value of 0..high. A test and no Option of the value: with `ok_or` on each in market::judge the proof did not close.
 pub fn up_to(high: u32, z: i32) -> bool
-    requires { high ≤ 10000 }
     ensures { result ≡ within 0 high z }
 {
-    (0..=high as i32).contains(&z)
+    0 <= z && z.unsigned_abs() <= high
 }
 
-// The day of the newest of the past sets.
+// The day of the newest of the past sets; 0 where there is none, as in the rules.
 pub fn newest_day(past: &[PastSet]) -> u32
     ensures { result ≡ newest_day past.now }
 {
@@ -37,29 +36,38 @@ pub fn newest_day(past: &[PastSet]) -> u32
     }
 }
 
-// h times (10000 - B) / (10000 - A) is above 10000.
-#[tactic(auto, unfolding(station_rules::specs::Markets::too_high))]
-pub fn is_too_high(a: u32, b: u32, h: u32) -> bool
-    requires { (a < 10000) × ((b ≤ 5000) × (h ≤ 10000)) }
-    ensures { result ≡ too_high a b h }
-{
-    LARGEST * (WHOLE - a) < h * (WHOLE - b)
-}
-
 // h in tenths, rounded once to the nearest, halves up.
 #[tactic(auto, unfolding(station_rules::specs::Markets::tenths))]
 pub fn in_tenths(h: u32) -> u32
-    requires { h ≤ 10000 }
     ensures { result ≡ tenths h }
 {
-    (h + 5) / 10
+    ((u64::from(h) + 5) / 10) as u32
 }
 
-// h times (10000 - B) / (10000 - A) in tenths, rounded once to the nearest, halves up.
-#[tactic(auto, unfolding(station_rules::specs::Markets::tenths_at))]
-pub fn in_tenths_at(a: u32, b: u32, h: u32) -> u32
-    requires { (a < 10000) × ((b ≤ 5000) × (h ≤ 10000)) }
-    ensures { result ≡ tenths_at a b h }
-{
-    (2 * h * (WHOLE - b) + 10 * (WHOLE - a)) / (20 * (WHOLE - a))
+// A corrected value h, the standard basis A that it stands at and the basis B that it is asked at, in hundredths: in these ranges its conversion to B doesn't wrap.
+#[derive(Clone, Copy)]
+pub struct Corrected {
+    pub value: u32,
+    pub standard: u32,
+    pub basis: u32,
+    pub ghost in_range: { (value ≤ 10000) × ((standard < 10000) × (basis ≤ 5000)) },
+}
+
+impl Corrected {
+    // h times (10000 - B) / (10000 - A) is above 10000.
+    #[tactic(auto, unfolding(station_rules::specs::Markets::too_high))]
+    pub fn is_too_high(self) -> bool
+        ensures { result ≡ too_high self.standard self.basis self.value }
+    {
+        LARGEST * (WHOLE - self.standard) < self.value * (WHOLE - self.basis)
+    }
+
+    // h times (10000 - B) / (10000 - A) in tenths, rounded once to the nearest, halves up.
+    #[tactic(auto, unfolding(station_rules::specs::Markets::tenths_at))]
+    pub fn in_tenths_at_basis(self) -> u32
+        ensures { result ≡ tenths_at self.standard self.basis self.value }
+    {
+        (2 * self.value * (WHOLE - self.basis) + 10 * (WHOLE - self.standard))
+            / (20 * (WHOLE - self.standard))
+    }
 }

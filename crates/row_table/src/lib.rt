@@ -7,7 +7,7 @@ ghost use Rattle.station_rules.specs.Rows.{row_exists, row_of, samples, standard
 
 use station_rules::{Limits, WHEAT};
 
-// A line that the row lacks has no limits.
+// A line that the row lacks has no limits: zeros, as in the rules.
 const NO_LIMITS: Limits = Limits {
     pair: 0,
     sample: 0,
@@ -19,7 +19,7 @@ const NO_LIMITS: Limits = Limits {
     check: 0,
 };
 
-// A row: samples a sheet, the standard basis A, and the limits of each line. Outside it is a number, as C hands it in and the places hold it, and what stands below takes any: an unsound station may hold any.
+// A row: samples a sheet, the standard basis A, and the limits of each line. Outside it is a number, as C hands it in and the places hold it: what stands below is defined for every number, as the rules are.
 #[derive(Clone, Copy)]
 struct Row {
     samples: u32,

@@ -8,7 +8,7 @@ use lib.IntN.{ℤ}
 use lib.ListN.{length}
 use borrow.Author.Tests.{eq-eqb, ne_eqb}
 use Rattle.whole.specs.Lists.{any, total}
-use Rattle.whole.proofs.ListLaws.{by_test, unlike_no}
+use Rattle.whole.proofs.ListLaws.{unlike_no}
 use Rattle.station_rules.specs.Lists.{keep}
 use Rattle.station_rules.specs.Sheets.{samples_of, wrong_number, wrong_third, wrong_again, again_round, first_deviation, final_deviation, kept, kept_samples, set_of, sheet_checks}
 use Rattle.station_rules.specs.declared.Sample.{Sample}
@@ -17,7 +17,7 @@ use Rattle.station_refusals.specs.declared.Refusal.{Refusal}
 use Rattle.station_rules.specs.declared.Set.{Set}
 use Rattle.station_refusals.specs.declared.Refusal.TheVariants.{SheetSize, SheetNumber, ThirdReading, AgainPair}
 use Rattle.sheet_numbers.specs.Samples.{has_again}
-use Rattle.sheet_numbers.proofs.SheetLaws.{samples_length}
+use Rattle.sheet_numbers.proofs.SheetLaws.{samples_length, accepted_by, refused_by}
 use Rattle.sheet_pass.specs.Passes.{round_of, all_of, found_of}
 use Rattle.sheet_pass.specs.declared.Found.{Found}
 use Rattle.sheet_again.specs.Tallies.{totals, counted}
@@ -31,15 +31,11 @@ last false set = refl
 -- what the pass finds is what the rules say
 pub found_right : (limits : Limits) (intercept : ℤ) (ss : List Sample) {t : Found} → Ok t ≡ found_of limits intercept ss → (any wrong_number ss ≡ false) × (t ≡ all_of limits intercept ss)
 unfolding found_of
-found_right limits intercept ss {t} e =
-    by_test (any wrong_number ss) (λ b. Ok t ≡ cond b (Err SheetNumber) (Ok (all_of limits intercept ss)) → (b ≡ false) × (t ≡ all_of limits intercept ss))
-    (λ w f. absurd cc) (λ w f. (refl, cc)) e
+found_right limits intercept ss e = accepted_by (any wrong_number ss) _ e
 
 found_wrong : (limits : Limits) (intercept : ℤ) (ss : List Sample) {r : Refusal} → Err r ≡ found_of limits intercept ss → (any wrong_number ss ≡ true) × (r ≡ SheetNumber)
 unfolding found_of
-found_wrong limits intercept ss {r} e =
-    by_test (any wrong_number ss) (λ b. Err r ≡ cond b (Err SheetNumber) (Ok (all_of limits intercept ss)) → (b ≡ true) × (r ≡ SheetNumber))
-    (λ w f. (refl, cc)) (λ w f. absurd cc) e
+found_wrong limits intercept ss e = refused_by (any wrong_number ss) _ e
 
 -- ---- without an again round
 

@@ -3,7 +3,7 @@
 #![tactic(auto)]
 
 ghost use Rattle.std.specs.Prelude.{◌≡◌, ◌≤◌};
-ghost use Rattle.sheet_numbers.specs.Samples.{Fair};
+ghost use Rattle.whole.specs.Bounds.{Within};
 ghost use Rattle.sheet.specs.Judged.{judged_of, without_round};
 
 use sheet_pass::Found;
@@ -31,7 +31,7 @@ pub fn judge(
     samples: usize,
     numbers: &[i32],
 ) -> Result<Set, Refusal>
-    requires { Fair limits intercept × ((1 ≤ samples) × (samples ≤ 1000)) }
+    requires { (Within 1000 1000 intercept) × ((1 ≤ samples) × (samples ≤ 1000)) }
     ensures { result ≡ judged_of limits intercept samples numbers.now }
 {
     if numbers.len() != SAMPLE_NUMBERS * samples {

@@ -1,29 +1,29 @@
 -- S and N as a pass over the samples.
-use mathlib.Core.Path.{◌≡◌, refl, sym, ap, ◌∙◌, subst, subst⁻¹}
+use mathlib.Core.Path.{◌≡◌, refl, sym, ap, ◌∙◌}
 use mathlib.Core.Bool.{Bool, true, false, not, ◌&&◌, cond}
-use mathlib.Core.List.{List, [], ◌∷◌, ◌++◌, map}
+use mathlib.Core.List.{List, [], ◌∷◌, map}
 use Rattle.std.specs.Prelude.{Ok, Err}
-use Prim.Native.Nat.{ℕ, suc, ◌+◌, ◌-◌, ◌*◌, ◌/◌, ◌≤◌}
+use Prim.Native.Nat.{ℕ, suc, ◌+◌, ◌*◌, ◌≤◌}
 use native.Mathlib.Omega.{arith}
 use lib.IntN.{ℤ, pos, ◌+ℤ◌, +ℤ_assoc, +ℤ_idl, +ℤ_idr}
 use lib.ListN.{length}
-use Rattle.std.proofs.Common.{length-append}
 use Rattle.std.proofs.lemmas.Int.{ints}
 use Rattle.whole.specs.Bounds.{Within}
 use Rattle.whole.specs.Lists.{any, total}
 use Rattle.whole.proofs.Tests.{or_none}
-use Rattle.whole.proofs.Fold.{fold}
+use Rattle.std.specs.List.{fold}
 use Rattle.whole.proofs.ListLaws.{by_test, cond_yes, cond_no}
 use Rattle.station_rules.specs.Lists.{keep}
 use Rattle.station_rules.specs.Sheets.{samples_of, wrong_number, pair, pair_sum, deviation, deviates, first_deviation, final_deviation, wrong_again, kept}
 use Rattle.station_rules.specs.declared.Sample.{Sample}
 use Rattle.station_rules.specs.declared.Limits.{Limits}
 use Rattle.station_rules.specs.declared.Set.{Set}
+use Rattle.station_rules.proofs.SheetBounds.{length_samples}
 use Rattle.station_refusals.specs.declared.Refusal.{Refusal}
 use Rattle.station_refusals.specs.declared.Refusal.TheVariants.{AgainPair}
-use Rattle.sheet_numbers.specs.Samples.{sample_from, Measured, Fair}
+use Rattle.sheet_numbers.specs.Samples.{Measured}
 use Rattle.sheet_numbers.proofs.SampleLaws.{measured}
-use Rattle.sheet_numbers.proofs.SheetLaws.{next_part, passed, passed_is, accepted, passed_next}
+use Rattle.sheet_numbers.proofs.SheetLaws.{accepted_by, refused_by, passed_is, Going, going_next, going_stop}
 use Rattle.sheet_sample.specs.Rounds.{in_round}
 use Rattle.sheet_sample.proofs.DeviationLaws.{final_within}
 use Rattle.sheet_again.specs.Tallies.{tallied, totals, added, counted}
@@ -43,15 +43,13 @@ module _ (limits : Limits) (intercept : ℤ) where
 
   round_gives : (s : Sample) {d : ℤ} → Ok d ≡ in_round limits intercept s → (wrong_again limits intercept true s ≡ false) × (d ≡ final_deviation limits intercept true s)
   unfolding in_round
-  round_gives s {d} e =
-      by_test (wrong_again limits intercept true s) (λ b. Ok d ≡ cond b (Err AgainPair) (Ok (final_deviation limits intercept true s)) → (b ≡ false) × (d ≡ final_deviation limits intercept true s))
-      (λ w f. absurd cc) (λ w f. (refl, cc)) e
+  round_gives s e = accepted_by (wrong_again limits intercept true s) _ e
 
   pub refused : (t : Set) (s : Sample) {r : Refusal} → Err r ≡ in_round limits intercept s → Err r ≡ added limits intercept t s
   unfolding in_round added
-  refused t s {r} e =
-      by_test (wrong_again limits intercept true s) (λ b. Err r ≡ cond b (Err AgainPair) (Ok (final_deviation limits intercept true s)) → Err r ≡ cond b (Err AgainPair) (Ok (tallied limits intercept t s)))
-      (λ w f. let same : r ≡ AgainPair = cc in ap Err same) (λ w f. absurd cc) e
+  refused t s e =
+      let a = refused_by (wrong_again limits intercept true s) _ e in
+      ap Err a.1 ∙ cond_yes _ _ refl a.0
 
   module _ (t : Set) (s : Sample) {d : ℤ} {b : Bool} (e : Ok d ≡ in_round limits intercept s) (test : b ≡ deviates limits d) where
     still : b ≡ deviates limits (final_deviation limits intercept true s)
@@ -72,7 +70,7 @@ module _ (limits : Limits) (intercept : ℤ) where
   plus a b = record { sum = a.sum +ℤ b.sum; count = a.count + b.count }
 
   totals_from : (t : Set) (ss : List Sample) → fold (tallied limits intercept) t ss ≡ plus t (totals limits intercept ss)
-  unfolding fold totals tallied
+  unfolding totals tallied
   totals_from t [] = sym (λ i. record { sum = +ℤ_idr t.sum i; count = nothing i })
     where
       nothing : t.count + 2 * 0 ≡ t.count
@@ -107,50 +105,49 @@ pub record Bounded (n : ℕ) (t : Set) : Type 0 where
   pub sum : Within (25000 * n) (25000 * n) t.sum
   pub count : t.count ≤ 2 * n
 
-module _ (limits : Limits) (intercept : ℤ) (fair : Fair limits intercept) where
+module _ (limits : Limits) (intercept : ℤ) (small : Within 1000 1000 intercept) where
   tallied_bounded : {n : ℕ} (t : Set) (s : Sample) → Measured s → Bounded n t → Bounded (n + 1) (tallied limits intercept t s)
   unfolding tallied
   tallied_bounded {n} t s m b =
-      let w = final_within limits intercept s fair m in
+      let w = final_within limits intercept s small m in
       by_test (kept limits intercept true s) (λ k. Bounded (n + 1) (cond k (record { sum = t.sum +ℤ final_deviation limits intercept true s; count = t.count + 2 }) t))
       (λ e. record { sum = record { over = omega (arith, ints, w.over, b.sum.over); under = omega (arith, ints, w.under, b.sum.under) }; count = omega (arith, b.count) })
       (λ e. record { sum = record { over = omega (arith, ints, b.sum.over); under = omega (arith, ints, b.sum.under) }; count = omega (arith, b.count) })
 
-  module _ (l : List ℤ) where
-    -- with the rest of the sheet's numbers l to come, none of them wrong
-    pub record Counting (rest : List ℤ) (t : Set) : Type 0 where
-      pub whole : passed (wrong_again limits intercept true) AgainPair (tallied limits intercept) t (samples_of rest) ≡ counted limits intercept (samples_of l)
-      pub right : any wrong_number (samples_of rest) ≡ false
-      pub few : length rest ≤ 6000
-      pub bounded : Bounded ((6000 - length rest) / 6) t
+  -- with some of the sheet's samples left, none of them with a wrong number
+  pub record Counting (numbers : List ℤ) (left : List Sample) (t : Set) : Type 0 where
+    pub right : any wrong_number left ≡ false
+    pub going : Going (wrong_again limits intercept true) AgainPair (tallied limits intercept) Bounded (counted limits intercept (samples_of numbers)) left t
 
-    pub counting_start : {rest : List ℤ} → rest ≡ l → length l ≤ 6000 → any wrong_number (samples_of l) ≡ false → Counting rest none
-    unfolding counted
-    counting_start {rest} e few right =
-        subst⁻¹ (λ (r : List ℤ). Counting r none) e (record {
-          whole = passed_is (wrong_again limits intercept true) AgainPair (tallied limits intercept) none (samples_of l)
-              ∙ ap (λ (t : Set). cond (any (wrong_again limits intercept true) (samples_of l)) (Err AgainPair) (Ok t)) (totals_fold limits intercept (samples_of l));
-          right = right;
-          few = few;
+  pub counting_start : (numbers : List ℤ) → length numbers ≤ 6000 → any wrong_number (samples_of numbers) ≡ false → Counting numbers (samples_of numbers) none
+  unfolding counted
+  counting_start numbers few right =
+      record {
+        right = right;
+        going = record {
+          comes = passed_is (wrong_again limits intercept true) AgainPair (tallied limits intercept) none (samples_of numbers)
+              ∙ ap (λ (t : Set). cond (any (wrong_again limits intercept true) (samples_of numbers)) (Err AgainPair) (Ok t)) (totals_fold limits intercept (samples_of numbers));
+          before = 0;
+          few = omega (arith, length_samples numbers);
           bounded = record { sum = record { over = omega (arith, ints); under = omega (arith, ints) }; count = omega arith };
-        })
+        };
+      }
 
-    module _ (rest part after : List ℤ) (split : rest ≡ part ++ after) (six : length part ≡ 6) (t : Set) (counting : Counting rest t) where
-      right_parts : (wrong_number (sample_from part) ≡ false) × (any wrong_number (samples_of after) ≡ false)
-      right_parts = or_none _ _ (ap (any wrong_number) (sym (next_part part after split six)) ∙ counting.right)
+  module _ (numbers : List ℤ) {left rest : List Sample} {t : Set} (g : Counting numbers left t) (s : Sample) (split : left ≡ s ∷ rest) where
+    parts_right : (wrong_number s ≡ false) × (any wrong_number rest ≡ false)
+    parts_right = or_none _ _ (ap (any wrong_number) (sym split) ∙ g.right)
 
-      pub part_measured : Measured (sample_from part)
-      part_measured = measured (sample_from part) right_parts.0
+    pub next_measured : Measured s
+    next_measured = measured s parts_right.0
 
-      pub counting_next : {r : Set} → Ok r ≡ added limits intercept t (sample_from part) → Counting after r
-      unfolding added
-      counting_next {r} e =
-          let a = accepted (wrong_again limits intercept true) AgainPair (tallied limits intercept) t (sample_from part) e in
-          let count : length rest ≡ 6 + length after = ap length split ∙ length-append part after ∙ omega arith in
-          let n : (6000 - length rest) / 6 + 1 ≡ (6000 - length after) / 6 = omega (arith, counting.few) in
-          record {
-            whole = passed_next (wrong_again limits intercept true) AgainPair (tallied limits intercept) rest part after split six t e ∙ counting.whole;
-            right = right_parts.1;
-            few = omega (arith, counting.few);
-            bounded = subst (λ (m : ℕ). Bounded m r) n (subst⁻¹ (Bounded ((6000 - length rest) / 6 + 1)) a.1 (tallied_bounded t (sample_from part) part_measured counting.bounded));
-          }
+    pub counting_next : {r : Set} → Ok r ≡ added limits intercept t s → Counting numbers rest r
+    unfolding added
+    counting_next e =
+        record {
+          right = parts_right.1;
+          going = going_next (wrong_again limits intercept true) AgainPair (tallied limits intercept) Bounded _ g.going s split (λ n _ b. tallied_bounded t s next_measured b) e;
+        }
+
+    pub counting_stop : {x : Refusal} → Err x ≡ added limits intercept t s → Err x ≡ counted limits intercept (samples_of numbers)
+    unfolding added
+    counting_stop e = going_stop (wrong_again limits intercept true) AgainPair (tallied limits intercept) Bounded _ g.going s split e

@@ -1,9 +1,8 @@
 -- For the proofs of the code, no rule: a sample taken from its part of the sheet, and the ranges in which nothing wraps (docs/SPECIFICATION.md, "The reference sheet").
-use Rattle.std.specs.Prelude.{Bool, not, ◌&&◌, ◌||◌, List, ◌≤◌, ℤ, pos, get_or}
+use Rattle.std.specs.Prelude.{Bool, not, ◌&&◌, ◌||◌, List, ℤ, pos, get_or}
 use Rattle.whole.specs.Bounds.{Within}
 use Rattle.station_rules.specs.Sheets.{is_result, absent}
 use Rattle.station_rules.specs.declared.Sample.{Sample}
-use Rattle.station_rules.specs.declared.Limits.{Limits}
 
 -- the sample of a list's first six numbers
 abbrev pub sample_from : List ℤ → Sample
@@ -31,7 +30,7 @@ in_ranges s =
 abbrev pub has_again : Sample → Bool
 has_again s = not (absent s.again_first)
 
--- what number 5 leaves of a sample: each number is −1 or one of 0..10000. It is asked for in a `requires`: a struct of such samples would be no plainer, the rules' Sample once more.
+-- what number 5 leaves of a sample: each number is −1 or one of 0..10000
 pub record Measured (s : Sample) : Type 0 where
   pub baseline : Within 1 10000 s.baseline
   pub first : Within 1 10000 s.first
@@ -39,9 +38,3 @@ pub record Measured (s : Sample) : Type 0 where
   pub third : Within 1 10000 s.third
   pub again_first : Within 1 10000 s.again_first
   pub again_second : Within 1 10000 s.again_second
-
--- limits and an intercept by which nothing wraps
-pub record Fair (limits : Limits) (intercept : ℤ) : Type 0 where
-  pub sample : limits.sample ≤ 1000
-  pub range : limits.range ≤ 1000
-  pub small : Within 1000 1000 intercept

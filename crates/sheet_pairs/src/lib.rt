@@ -5,10 +5,9 @@
 ghost use Rattle.std.specs.Prelude.{◌≡◌};
 ghost use Rattle.whole.specs.Bounds.{Within};
 ghost use Rattle.station_rules.specs.Sheets.{spread, closer, pair_sum, closest_pair};
-ghost use Rattle.sheet_numbers.specs.Samples.{Measured};
 ghost use Rattle.sheet_pairs.specs.Pairs.{pair_of, Small};
 
-use station_rules::Sample;
+use sheet_numbers::MeasuredSample;
 
 // How far a pair's results lie apart.
 #[tactic(auto, unfolding(station_rules::specs::Sheets::spread))]
@@ -34,10 +33,10 @@ fn closer(p: [i32; 2], q: [i32; 2]) -> [i32; 2]
 }
 
 // `closer` twice: of `min_by_key` over the three the proof did not close.
-pub fn closest_pair(s: Sample) -> [i32; 2]
-    requires { Measured s }
-    ensures { (pair_of result ≡ closest_pair s) × Small result }
+pub fn closest_pair(s: MeasuredSample) -> [i32; 2]
+    ensures { (pair_of result ≡ closest_pair s.sample) × Small result }
 {
+    let s = s.sample;
     let pairs = [[s.first, s.second], [s.first, s.third], [s.second, s.third]];
     closer(closer(pairs[0], pairs[1]), pairs[2])
 }

@@ -10,7 +10,7 @@ use Rattle.std.specs.Int.{int_max, int_min}
 use Rattle.std.proofs.lemmas.Int.{ints, to_z-of_z}
 use Rattle.whole.specs.Bounds.{Within}
 use Rattle.whole.specs.Lists.{total, larger_of, smaller_of, largest, smallest}
-use Rattle.whole.proofs.Fold.{fold}
+use Rattle.std.specs.List.{fold}
 use Rattle.whole.proofs.ListLaws.{larger_by, largest_fold, larger_same, smaller_by, smallest_fold, smaller_same, smaller_comm}
 
 pub larger_is : (x y : ℤ) → int_max x y ≡ larger_of x y
@@ -43,11 +43,9 @@ below_bound z w = smaller_comm (pos 25000) z ∙ ap (λ (b : Bool). cond b z (po
 
 module _ {A : Type 0} (f : A → ℤ) (a : A) (l : List A) (w : Within 25000 25000 (f a)) where
   pub largest_from : fold (larger_by f) (negsuc 24999) (a ∷ l) ≡ largest (map f (a ∷ l))
-  unfolding fold
   largest_from = ap (λ (z : ℤ). fold (larger_by f) z l) (above_bound (f a) w ∙ sym (larger_same (f a))) ∙ largest_fold f a (a ∷ l) (omega arith)
 
   pub smallest_from : fold (smaller_by f) (pos 25000) (a ∷ l) ≡ smallest (map f (a ∷ l))
-  unfolding fold
   smallest_from = ap (λ (z : ℤ). fold (smaller_by f) z l) (below_bound (f a) w ∙ sym (smaller_same (f a))) ∙ smallest_fold f a (a ∷ l) (omega arith)
 
 -- ---- a sum
@@ -57,7 +55,6 @@ module _ {A : Type 0} (f : A → ℤ) where
   add_by z a = z +ℤ f a
 
   sum_from : (z : ℤ) (l : List A) → fold add_by z l ≡ z +ℤ total (map f l)
-  unfolding fold
   sum_from z [] = sym (+ℤ_idr z)
   sum_from z (a ∷ l) = sum_from (z +ℤ f a) l ∙ +ℤ_assoc z (f a) (total (map f l))
 

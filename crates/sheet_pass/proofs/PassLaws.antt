@@ -1,27 +1,27 @@
 -- The loop of the pass: what is to come, from what it has found, gives what the whole sheet comes to.
-use mathlib.Core.Path.{◌≡◌, refl, ap, ◌∙◌, subst, subst⁻¹}
+use mathlib.Core.Path.{◌≡◌, refl, ap, ◌∙◌}
 use mathlib.Core.Bool.{Bool, false, cond}
-use mathlib.Core.List.{List, [], ◌∷◌, ◌++◌}
-use Prim.Native.Nat.{ℕ, ◌+◌, ◌-◌, ◌/◌, ◌≤◌}
+use mathlib.Core.List.{List, [], ◌∷◌}
+use Prim.Native.Nat.{ℕ, ◌+◌, ◌≤◌}
 use native.Mathlib.Omega.{arith}
 use lib.IntN.{ℤ, pos, negsuc}
 use lib.ListN.{length}
 use Rattle.std.specs.Prelude.{Result, Ok, Err}
-use Rattle.std.proofs.Common.{length-append}
 use Rattle.std.proofs.lemmas.Int.{ints}
 use Rattle.whole.specs.Bounds.{Within}
 use Rattle.whole.specs.Lists.{any}
-use Rattle.whole.proofs.Fold.{fold}
+use Rattle.std.specs.List.{fold}
 use Rattle.whole.proofs.Tests.{or_none}
 use Rattle.whole.proofs.ListLaws.{by_test, or_else, any_fold, any_map, larger_by, larger_keeps, smaller_by, smaller_keeps}
 use Rattle.station_rules.specs.Sheets.{samples_of, wrong_number, wrong_third, deviates, first_deviation}
 use Rattle.station_rules.specs.declared.Sample.{Sample}
 use Rattle.station_rules.specs.declared.Limits.{Limits}
+use Rattle.station_rules.proofs.SheetBounds.{length_samples}
 use Rattle.station_refusals.specs.declared.Refusal.{Refusal}
 use Rattle.station_refusals.specs.declared.Refusal.TheVariants.{SheetNumber}
-use Rattle.sheet_numbers.specs.Samples.{sample_from, has_again, Fair}
+use Rattle.sheet_numbers.specs.Samples.{has_again}
 use Rattle.sheet_numbers.proofs.SampleLaws.{measured}
-use Rattle.sheet_numbers.proofs.SheetLaws.{some_part, passed, passed_is, accepted, passed_next}
+use Rattle.sheet_numbers.proofs.SheetLaws.{some_part, passed, passed_is, Going, going_next, going_stop}
 use Rattle.sheet_sample.proofs.DeviationLaws.{first_within}
 use Rattle.sheet_pass.specs.Passes.{Bounded, more, joined, all_of, found_of}
 use Rattle.sheet_pass.specs.declared.Found.{Found}
@@ -31,7 +31,7 @@ use Rattle.sheet_pass.proofs.BoundLaws.{largest_from, smallest_from, add_by, sum
 abbrev pub nothing : Found
 nothing = record { third = false; again = false; span = record { deviating = false; high = negsuc 24999; low = pos 25000 }; sum = pos 0 }
 
-module _ (limits : Limits) (intercept : ℤ) (fair : Fair limits intercept) where
+module _ (limits : Limits) (intercept : ℤ) (small : Within 1000 1000 intercept) where
   abbrev dev : Sample → ℤ
   dev = first_deviation limits intercept
 
@@ -49,7 +49,7 @@ module _ (limits : Limits) (intercept : ℤ) (fair : Fair limits intercept) wher
     span = record { deviating = fold (or_else deviating) t.span.deviating ss; high = fold (larger_by dev) t.span.high ss; low = fold (smaller_by dev) t.span.low ss };
     sum = fold (add_by dev) t.sum ss;
   }
-  unfolding fold more
+  unfolding more
   fold_more t [] = refl
   fold_more t (s ∷ ss) = fold_more (more limits intercept t s) ss
 
@@ -59,7 +59,7 @@ module _ (limits : Limits) (intercept : ℤ) (fair : Fair limits intercept) wher
       passed_is wrong_number SheetNumber (more limits intercept) nothing (s ∷ ss)
       ∙ by_test (any wrong_number (s ∷ ss)) (λ b. cond b (Err SheetNumber) (Ok (fold (more limits intercept) nothing (s ∷ ss))) ≡ cond b (Err SheetNumber) (Ok (all_of limits intercept (s ∷ ss))))
       (λ e. refl)
-      (λ e. let w = first_within limits intercept s fair (measured s (or_none (wrong_number s) (any wrong_number ss) e).0) in
+      (λ e. let w = first_within limits intercept s small (measured s (or_none (wrong_number s) (any wrong_number ss) e).0) in
       ap Ok (fold_more nothing (s ∷ ss) ∙ (λ i. record {
         third = any_fold (wrong_third limits) (s ∷ ss) i;
         again = any_fold has_again (s ∷ ss) i;
@@ -78,36 +78,29 @@ module _ (limits : Limits) (intercept : ℤ) (fair : Fair limits intercept) wher
         low = smaller_keeps (Within 25000 25000) t.span.low (dev s) b.low w;
       }
 
-  module _ (l : List ℤ) where
-    -- with the rest of the sheet's numbers l to come
-    pub record Passing (rest : List ℤ) (t : Found) : Type 0 where
-      pub whole : pass_from t (samples_of rest) ≡ found_of limits intercept (samples_of l)
-      pub few : length rest ≤ 6000
-      pub bounded : Bounded ((6000 - length rest) / 6) t
+  -- with some of the sheet's samples left
+  abbrev pub Passing : (numbers : List ℤ) → List Sample → Found → Type 0
+  Passing numbers = Going wrong_number SheetNumber (more limits intercept) Bounded (found_of limits intercept (samples_of numbers))
 
-    pub passing_start : {rest : List ℤ} → rest ≡ l → 6 ≤ length l → length l ≤ 6000 → Passing rest nothing
-    passing_start {rest} e some few =
-        subst⁻¹ (λ (r : List ℤ). Passing r nothing) e (record {
-          whole = some_part (λ ss. pass_from nothing ss ≡ found_of limits intercept ss) l some found_is;
-          few = few;
-          bounded = record {
-            sum = record { over = omega (arith, ints); under = omega (arith, ints) };
-            high = record { over = omega (arith, ints); under = omega (arith, ints) };
-            low = record { over = omega (arith, ints); under = omega (arith, ints) };
-          };
-        })
+  pub passing_start : (numbers : List ℤ) → 6 ≤ length numbers → length numbers ≤ 6000 → Passing numbers (samples_of numbers) nothing
+  passing_start numbers some few =
+      record {
+        comes = some_part (λ ss. pass_from nothing ss ≡ found_of limits intercept ss) numbers some found_is;
+        before = 0;
+        few = omega (arith, length_samples numbers);
+        bounded = record {
+          sum = record { over = omega (arith, ints); under = omega (arith, ints) };
+          high = record { over = omega (arith, ints); under = omega (arith, ints) };
+          low = record { over = omega (arith, ints); under = omega (arith, ints) };
+        };
+      }
 
-    pub passing_next : (rest part after : List ℤ) → rest ≡ part ++ after → length part ≡ 6 → (t : Found) → Passing rest t → {r : Found}
-        → Ok r ≡ joined limits intercept t (sample_from part) → Passing after r
+  module _ (numbers : List ℤ) {left rest : List Sample} {t : Found} (g : Passing numbers left t) (s : Sample) (split : left ≡ s ∷ rest) where
+    pub passing_next : {r : Found} → Ok r ≡ joined limits intercept t s → Passing numbers rest r
     unfolding joined
-    passing_next rest part after split six t passing {r} e =
-        let s = sample_from part in
-        let a = accepted wrong_number SheetNumber (more limits intercept) t s e in
-        let count : length rest ≡ 6 + length after = ap length split ∙ length-append part after ∙ omega arith in
-        let n : (6000 - length rest) / 6 + 1 ≡ (6000 - length after) / 6 = omega (arith, passing.few) in
-        record {
-          whole = passed_next wrong_number SheetNumber (more limits intercept) rest part after split six t e ∙ passing.whole;
-          few = omega (arith, passing.few);
-          bounded = subst (λ (m : ℕ). Bounded m r) n
-              (subst⁻¹ (Bounded ((6000 - length rest) / 6 + 1)) a.1 (more_bounded t s (first_within limits intercept s fair (measured s a.0)) passing.bounded));
-        }
+    passing_next e =
+        going_next wrong_number SheetNumber (more limits intercept) Bounded _ g s split (λ n right b. more_bounded t s (first_within limits intercept s small (measured s right)) b) e
+
+    pub passing_stop : {x : Refusal} → Err x ≡ joined limits intercept t s → Err x ≡ found_of limits intercept (samples_of numbers)
+    unfolding joined
+    passing_stop e = going_stop wrong_number SheetNumber (more limits intercept) Bounded _ g s split e

@@ -8,8 +8,9 @@ ghost use Rattle.whole.specs.Bounds.{Within};
 ghost use Rattle.station_rules.specs.Sheets.{samples_of};
 ghost use Rattle.sheet_pass.specs.Passes.{Bounded, widened, joined, found_of, round_of};
 
+use sheet_numbers::MeasuredSample;
 use sheet_sample::Terms;
-use station_rules::{Limits, Refusal, SAMPLE_NUMBERS, Sample};
+use station_rules::{Limits, Refusal, Sample};
 
 // No deviation lies beyond these: the largest so far starts from the lower, the smallest from the higher (an Option of the span is no plainer: each step would have two ways).
 const LOWEST: i32 = -25000;
@@ -37,7 +38,6 @@ pub struct Found {
 // The span with one deviation more: a sample that doesn't deviate widens it too.
 #[tactic(auto, using(crate::proofs::BoundLaws::spans, whole::proofs::Tests::or_true))]
 fn widened(limits: Limits, s: Span, d: i32) -> Span
-    requires { limits.sample ≤ 1000 }
     ensures { result ≡ widened limits s d }
 {
     let wider = Span {
@@ -55,14 +55,13 @@ fn widened(limits: Limits, s: Span, d: i32) -> Span
 }
 
 // One sample more; a wrong number is number 5.
+#[tactic(auto, unfolding(crate::specs::Passes::joined, crate::specs::Passes::more))]
 fn joined(terms: Terms, t: Found, s: Sample) -> Result<Found, Refusal>
     requires { Within 25000000 25000000 t.sum }
     ensures { result ≡ joined terms.limits terms.intercept t s }
 {
-    if sheet_numbers::wrong_number(s) {
-        return Err(Refusal::SheetNumber);
-    }
-    let d = terms.first_deviation(s);
+    let measured = MeasuredSample::try_from(s)?;
+    let d = terms.first_deviation(measured);
     Ok(Found {
         third: t.third || sheet_sample::wrong_third(terms.limits, s),
         again: t.again || sheet_numbers::has_again(s),
@@ -72,6 +71,7 @@ fn joined(terms: Terms, t: Found, s: Sample) -> Result<Found, Refusal>
 }
 
 // The pass stops at a wrong number (5) only: it counts before a wrong third (6), whichever sample has it.
+#[tactic(auto, using(crate::proofs::PassLaws::passing_next))]
 pub fn pass(terms: Terms, numbers: &[i32]) -> Result<Found, Refusal>
     requires { (6 ≤ length numbers.now) × (length numbers.now ≤ 6000) }
     ensures is { result ≡ found_of terms.limits terms.intercept (samples_of numbers.now) }
@@ -87,16 +87,15 @@ pub fn pass(terms: Terms, numbers: &[i32]) -> Result<Found, Refusal>
         },
         sum: 0,
     };
-    for part in numbers.chunks_exact(SAMPLE_NUMBERS) {
-        t = joined(terms, t, sheet_numbers::sample_of(part))?;
+    for s in sheet_numbers::samples(numbers) {
+        t = joined(terms, t, s)?;
     }
     Ok(t)
 }
 
 // Rule 3: some sample deviates, and the largest minus the smallest deviation is above twice the range limit.
 pub fn again_round(limits: Limits, s: Span) -> bool
-    requires { (limits.range ≤ 1000) × ((Within 25000 25000 s.high) × (Within 25000 25000 s.low)) }
     ensures { result ≡ round_of limits s }
 {
-    s.deviating && 2 * (limits.range as i32) < s.high - s.low
+    s.deviating && 2 * i64::from(limits.range) < i64::from(s.high) - i64::from(s.low)
 }

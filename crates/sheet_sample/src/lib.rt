@@ -2,13 +2,13 @@
 
 #![tactic(auto)]
 
-ghost use Rattle.std.specs.Prelude.{◌≡◌, ◌≤◌, IfOk};
+ghost use Rattle.std.specs.Prelude.{◌≡◌, IfOk};
 ghost use Rattle.whole.specs.Bounds.{Within};
 ghost use Rattle.station_rules.specs.Sheets.{third_due, wrong_third, used_pair, pair_sum, deviation, deviates, first_deviation};
-ghost use Rattle.sheet_numbers.specs.Samples.{Measured, Fair};
 ghost use Rattle.sheet_pairs.specs.Pairs.{pair_of, Small};
 ghost use Rattle.sheet_sample.specs.Rounds.{in_round};
 
+use sheet_numbers::MeasuredSample;
 use station_rules::{Limits, Refusal, Sample};
 
 // First and second differ by more than the pair limit.
@@ -27,35 +27,34 @@ pub fn wrong_third(limits: Limits, s: Sample) -> bool
     third_due(limits, s) != measured
 }
 
-#[tactic(auto, unfolding(station_rules::specs::Sheets::used_pair))]
-fn used_pair(limits: Limits, s: Sample) -> [i32; 2]
-    requires { Measured s }
-    ensures { (pair_of result ≡ used_pair limits s) × Small result }
-{
-    if third_due(limits, s) {
-        sheet_pairs::closest_pair(s)
-    } else {
-        [s.first, s.second]
-    }
-}
-
 // The magnitude is above twice the sample limit.
 pub fn is_deviating(limits: Limits, d: i32) -> bool
-    requires { limits.sample ≤ 1000 }
     ensures { result ≡ deviates limits d }
 {
-    2 * limits.sample < d.unsigned_abs()
+    2 * u64::from(limits.sample) < u64::from(d.unsigned_abs())
 }
 
-// A line's limits and its intercept, by which nothing wraps.
+// A line's limits and its intercept, by which no deviation wraps.
 #[derive(Clone, Copy)]
 pub struct Terms {
     pub limits: Limits,
     pub intercept: i32,
-    pub ghost fair: { Fair limits intercept },
+    pub ghost small: { Within 1000 1000 intercept },
 }
 
 impl Terms {
+    // Rule 1: the closest pair where a third is due, else first and second.
+    #[tactic(auto, unfolding(station_rules::specs::Sheets::used_pair))]
+    fn used_pair(self, s: MeasuredSample) -> [i32; 2]
+        ensures { (pair_of result ≡ used_pair self.limits s.sample) × Small result }
+    {
+        if third_due(self.limits, s.sample) {
+            sheet_pairs::closest_pair(s)
+        } else {
+            [s.sample.first, s.sample.second]
+        }
+    }
+
     // A pair's sum plus twice the intercept minus twice the baseline.
     fn deviation_of(self, baseline: i32, pair: [i32; 2]) -> i32
         requires { (Within 1 10000 baseline) × (Small pair) }
@@ -65,28 +64,27 @@ impl Terms {
     }
 
     #[tactic(auto, unfolding(station_rules::specs::Sheets::first_deviation))]
-    pub fn first_deviation(self, s: Sample) -> i32
-        requires { Measured s }
-        ensures { (result ≡ first_deviation self.limits self.intercept s) × Within 25000 25000 result }
+    pub fn first_deviation(self, s: MeasuredSample) -> i32
+        ensures { (result ≡ first_deviation self.limits self.intercept s.sample) × Within 25000 25000 result }
     {
-        self.deviation_of(s.baseline, used_pair(self.limits, s))
+        self.deviation_of(s.sample.baseline, self.used_pair(s))
     }
 
     // In an again round an again pair is due for each deviating sample (number 7), and its deviation is worked out anew from it.
     #[tactic(auto, unfolding(station_rules::specs::Sheets::final_deviation, crate::specs::Rounds::in_round))]
-    pub fn in_round(self, s: Sample) -> Result<i32, Refusal>
-        requires { Measured s }
-        ensures is { result ≡ in_round self.limits self.intercept s }
+    pub fn in_round(self, s: MeasuredSample) -> Result<i32, Refusal>
+        ensures is { result ≡ in_round self.limits self.intercept s.sample }
         ensures small { IfOk result (Within 25000 25000) }
     {
         let first = self.first_deviation(s);
         let due = is_deviating(self.limits, first);
-        if due != sheet_numbers::has_again(s) {
+        if due != sheet_numbers::has_again(s.sample) {
             return Err(Refusal::AgainPair);
         }
         if !due {
             return Ok(first);
         }
+        let s = s.sample;
         Ok(self.deviation_of(s.baseline, [s.again_first, s.again_second]))
     }
 }

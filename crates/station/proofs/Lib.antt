@@ -1,3 +1,2 @@
 pub mod SheetLaws
 pub mod CallLaws
-pub mod LimitLaws

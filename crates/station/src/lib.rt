@@ -1,5 +1,6 @@
 // A station's calls: opening, sheet and repair, on the station in its caller's places. Judged first, written last: a refused call writes
 // nothing, but for a refused opening, which leaves a fresh station of row 0.
+// Places, day, line and numbers stay parameters, as the exported functions hand them on from C: a struct of them would be put together only to be taken apart.
 
 #![tactic(auto)]
 
@@ -7,7 +8,11 @@ ghost use Rattle.std.specs.Prelude.{◌≡◌, Ok};
 ghost use Rattle.station_rules.specs.InPlace.{open_in, sheet_in, repair_in};
 ghost use Rattle.station.specs.Accepted.{accepted_in, Acceptable, Ruled};
 
+use line::{HeldSet, SoundLine};
 use station_rules::{Outcome, PastSet, ROW_PLACE, Refusal, STATION_PLACES, Set};
+
+// The lines that a station has places for.
+const STATION_LINES: usize = 3;
 
 // ---- opening
 
@@ -29,20 +34,10 @@ pub fn open(state: &mut [i32; STATION_PLACES], row: usize) -> Result<(), Refusal
 fn judge(state: &[i32], day: u32, line: usize, numbers: &[i32]) -> Result<Set, Refusal>
     ensures { Ruled state.now day line numbers.now result }
 {
-    if !station_soundness::is_sound(state) {
-        return Err(Refusal::UnsoundStation);
-    }
-    if station_soundness::is_bad_day(station_places::day_of(state), day) {
-        return Err(Refusal::BadDay);
-    }
-    let row = station_places::row_of(state);
-    if row_table::line_count(row) <= line {
-        return Err(Refusal::UnknownLine);
-    }
-    let l = station_places::line_of(state, line);
-    let limits = row_table::limits_of(row, line);
-    let samples = row_table::sample_count(row) as usize;
-    sheet::judge(limits, l.intercept, samples, numbers)
+    let entry = station_entry::judge_line(state, day, line)?;
+    let limits = row_table::limits_of(entry.row, line);
+    let samples = row_table::sample_count(entry.row) as usize;
+    sheet::judge(limits, entry.sound.line.intercept, samples, numbers)
 }
 
 // An accepted sheet: its line after the set, the day, and the outcome.
@@ -50,13 +45,17 @@ fn accept(state: &mut [i32], day: u32, line: usize, set: Set) -> Outcome
     requires { Acceptable state.old day line set }
     ensures { record { answer = Ok result; places = state.new } ≡ accepted_in state.old day line set }
 {
-    let l = station_places::line_of(state, line);
+    let l = SoundLine {
+        line: station_places::line_of(state, line),
+    };
     let limits = row_table::limits_of(station_places::row_of(state), line);
     let v = line_verdict::verdict_on(limits, l, day, set);
-    let p = PastSet {
-        day,
-        sum: set.sum,
-        count: set.count,
+    let p = HeldSet {
+        set: PastSet {
+            day,
+            sum: set.sum,
+            count: set.count,
+        },
     };
     station_places::enter_sheet(state, line, p, v);
     station_places::put_day(state, day);
@@ -80,16 +79,10 @@ pub fn sheet(state: &mut [i32], day: u32, line: usize, numbers: &[i32]) -> Resul
 pub fn repair(state: &mut [i32], day: u32) -> Result<(), Refusal>
     ensures { record { answer = result; places = state.new } ≡ repair_in state.old day }
 {
-    if !station_soundness::is_sound(state) {
-        return Err(Refusal::UnsoundStation);
+    station_entry::judge_day(state, day)?;
+    for line in 0..STATION_LINES {
+        station_places::repair_line(state, line);
     }
-    if station_soundness::is_bad_day(station_places::day_of(state), day) {
-        return Err(Refusal::BadDay);
-    }
-    // one by one: a loop of three would need an invariant over the places
-    station_places::repair_line(state, 0);
-    station_places::repair_line(state, 1);
-    station_places::repair_line(state, 2);
     station_places::put_day(state, day);
     Ok(())
 }

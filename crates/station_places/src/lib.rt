@@ -8,11 +8,12 @@ ghost use Rattle.station_rules.specs.Lines.{change_of};
 ghost use Rattle.station_rules.specs.Stations.{line_of};
 ghost use Rattle.station_rules.specs.Places.{line_places, station_in};
 ghost use Rattle.station_rules.specs.InPlace.{sheet_line, with_day, with_line, with_repaired};
-ghost use Rattle.line.specs.Ranges.{SetFits};
 
-use station_rules::{DAY_PLACE, FIRST_LINE, LINE_PLACES, Line, PastSet, ROW_PLACE, Verdict};
+use line::HeldSet;
+use station_rules::{DAY_PLACE, FIRST_LINE, LINE_PLACES, Line, ROW_PLACE, Verdict};
 
-// A slice of 47 in each contract, and no array type: callers hold a slice, and an array would ask more of them.
+// A slice of 47 in each contract, and no array: the calls are lent a slice, whose length is one of the things that soundness tests, and an array's Option had to be taken apart besides in each of them.
+// A line's number below 3 stands in three: C names a line by its number, and a type for it would be made and taken apart once in each.
 
 // ---- read
 
@@ -50,11 +51,10 @@ pub fn put_day(state: &mut [i32], day: u32)
 }
 
 // A line after a sheet.
-pub fn enter_sheet(state: &mut [i32], line: usize, p: PastSet, v: Verdict)
+pub fn enter_sheet(state: &mut [i32], line: usize, p: HeldSet, v: Verdict)
     requires state_len { (length state.old ≡ 47) × (line < 3) }
-    requires line_bound { ((line_of (station_in state.old) line).held ≤ 4) × (SetFits p) }
     requires within { (Within 1000 1000 (line_of (station_in state.old) line).intercept) × (Within 2000000 2000000 (change_of v)) }
-    ensures { state.new ≡ with_line state.old line (sheet_line (line_places state.old line) p v) }
+    ensures { state.new ≡ with_line state.old line (sheet_line (line_places state.old line) p.set v) }
 {
     let start = FIRST_LINE + LINE_PLACES * line;
     line::enter_sheet(&mut state[start..start + LINE_PLACES], p, v);

@@ -29,7 +29,7 @@ pub enum Refusal {
     ShutLine,
 }
 
-// A refusal's number.
+// A refusal's number: by a match, so that a wrong program can answer another refusal's (docs/DECISIONS.md).
 impl From<Refusal> for u32 {
     ghost from_gives = { λ r n. n ≡ number_of r };
 

@@ -9,6 +9,7 @@ use native.Mathlib.Nat.{mul-le-mul_right, div-lt_iff_lt-mul}
 use lib.Dec.{eqb}
 use lib.IntN.{ℤ, pos, negsuc, neg_ℤ, nat_abs, ◌-ℤ◌}
 use borrow.Author.Tests.{ltb-true, eqb-false, ne_eqb}
+use Rattle.std.proofs.lemmas.Int.{ints}
 use Rattle.whole.specs.Rounding.{rounded_away}
 use Rattle.station_rules.specs.Rows.{line_count, limits_of}
 use Rattle.station_rules.specs.Lines.{LinePhase, new_line, open_line, adjusted_line, shut_line, Values, exceeded, same_side, test_of, plus, five_test, averages_due, tests_by, tests_due, first_exceeded, rounded_average, sound_intercept, judged, verdict_of, change_of, phase_after, is_met, met_every, valid_on}
@@ -20,7 +21,6 @@ use Rattle.station_rules.specs.declared.Verdict.TheVariants.{Met, Adjusted, Shut
 use Rattle.station_rules.specs.declared.Test.{Test}
 use Rattle.station_rules.specs.declared.Set.{Set}
 use Rattle.station_rules.specs.declared.Limits.{Limits}
-use Rattle.station_rules.proofs.Magnitudes.{abs_neg}
 use Rattle.station_rules.proofs.RowFacts.{LimitsFacts, row_facts}
 use Rattle.station_rules.proofs.Verdicts.{met_is_met}
 
@@ -33,12 +33,8 @@ quotient_some k n h g e =
 
 rounded_some : (z : ℤ) (n : ℕ) → 1 ≤ n → n ≤ nat_abs z → neg_ℤ (rounded_away z n) ≡ pos 0 → ⊥
 unfolding rounded_away
-rounded_some (pos k) n h g e =
-    let q = (2 * k + n) / (2 * n) in
-    quotient_some k n h g (sym (abs_neg (pos q)) ∙ ap nat_abs e)
-rounded_some (negsuc k) n h g e =
-    let q = (2 * suc k + n) / (2 * n) in
-    quotient_some (suc k) n h g (sym (abs_neg (neg_ℤ (pos q)) ∙ abs_neg (pos q)) ∙ ap nat_abs e)
+rounded_some (pos k) n h g e = quotient_some k n h g (omega (arith, ints))
+rounded_some (negsuc k) n h g e = quotient_some (suc k) n h g (omega (arith, ints))
 
 -- ---- the tests due
 
@@ -83,7 +79,7 @@ module _ (limits : Limits) (f : LimitsFacts limits) (set : Set) (some' : 1 ≤ s
   due_fair shut_line valid = ((f.check.least, some'), tt)
 
 first_fair : (ts : List Test) (t : Test) → AllFair ts → first_exceeded ts ≡ Some t → Fair t × (exceeded t ≡ true)
-first_fair [] t f e = let z : ◌≡◌ {A = ℕ} 0 1 = cc in absurd (omega arith)
+first_fair [] t f e = grind arith
 first_fair (x ∷ ts) t f e = go (exceeded x) refl e (first_fair ts t f.1)
   where
     go : (b : Bool) → exceeded x ≡ b → cond b (Some x) (first_exceeded ts) ≡ Some t → (first_exceeded ts ≡ Some t → Fair t × (exceeded t ≡ true))
@@ -110,16 +106,16 @@ module _ (row line : ℕ) (here : line < line_count row) (v : Values) (day : ℕ
     where
       adjusted : (t : Test) → Fair t × (exceeded t ≡ true) → (b : Bool) → cond b (Adjusted (neg_ℤ (rounded_average t))) Shut ≡ Adjusted change → change ≡ pos 0 → ⊥
       adjusted t f true e z = let q : neg_ℤ (rounded_average t) ≡ change = cc in average_some t f.0 f.1 (q ∙ z)
-      adjusted t f false e z = let y : ◌≡◌ {A = ℕ} 0 1 = cc in omega arith
+      adjusted t f false e z = grind arith
 
       by_test : 1 ≤ set.count → (o : Option Test) → first_exceeded (tests_due limits v day set) ≡ o → judged v.intercept o ≡ Adjusted change → change ≡ pos 0 → ⊥
-      by_test some' None g e z = let y : ◌≡◌ {A = ℕ} 0 1 = cc in omega arith
+      by_test some' None g e z = grind arith
       by_test some' (Some t) g e z =
           adjusted t (first_fair (tests_due limits v day set) t (due_fair limits ((row_facts row).line_limits line here) set some' v.phase (valid_on day v.past)) g)
           (sound_intercept (v.intercept -ℤ rounded_average t)) e z
 
       go : (b : Bool) → eqb set.count 0 ≡ b → cond b Shut (judged v.intercept (first_exceeded (tests_due limits v day set))) ≡ Adjusted change → change ≡ pos 0 → ⊥
-      go true g e z = let y : ◌≡◌ {A = ℕ} 0 1 = cc in omega arith
+      go true g e z = grind arith
       go false g e z = by_test (some_of set.count (eqb-false set.count 0 g)) (first_exceeded (tests_due limits v day set)) refl e z
         where
           some_of : (n : ℕ) → (n ≡ 0 → ⊥) → 1 ≤ n

@@ -4,17 +4,20 @@ use mathlib.Core.Logic.{◌≢◌}
 use mathlib.Core.Bool.{Bool, true, false, not, ◌&&◌, cond}
 use mathlib.Core.List.{List, [], ◌∷◌, map}
 use Rattle.std.specs.Prelude.{Ok, Err, Option, None, Some}
-use Prim.Native.Nat.{ℕ, zero, suc, ◌*◌, ◌%◌, ◌≤◌, ◌<◌}
+use Prim.Native.Nat.{ℕ, ◌≤◌, ◌<◌}
 use native.Mathlib.Omega.{arith}
 use native.Mathlib.Decide.{ℕ_discrete}
-use lib.Dec.{T, eqb, leb, ltb, le→leb, ltb→lt}
+use lib.Dec.{T, eqb, leb, ltb, le→leb}
 use lib.ListN.{length, take, get_or, set, replicate, length-set, length-map, get_or-map}
 use lib.Seq.{get_or-set_same, get_or-set_other}
-use lib.IntN.{ℤ, nat_abs, ◌+ℤ◌}
-use lib.Ieee.Fits.{eq→eqb}
-use borrow.Author.Tests.{ltb-false, eq-eqb, ne_eqb, eqb-false}
+use lib.IntN.{ℤ, ◌+ℤ◌}
+use lib.Ieee.Fits.{and_i}
+use Rattle.std.specs.Bool.{passes}
+use Rattle.std.proofs.lemmas.Bool.{ltb-true, ltb-false, eq-eqb, ne_eqb, not-false, or_parts}
+use Rattle.std.proofs.lemmas.Bool.Decides.{nat_tests}
+use Rattle.std.proofs.lemmas.Grind.{common_steps}
 use Rattle.whole.specs.Lists.{all, Check}
-use Rattle.whole.proofs.Tests.{and_i, to_true, or_none, not_false_T}
+use lib.Ieee.Bits.{is_true}
 use Rattle.station_rules.specs.Rows.{row_exists, samples, line_count, limits_of}
 use Rattle.station_rules.specs.Refusals.{first_number, number_of, refusal_of}
 use Rattle.station_rules.specs.Sheets.{sheet_checks}
@@ -80,60 +83,43 @@ all_known s (sheet_call day line numbers) = tt
 all_known s (repair_call day) = tt
 all_known s (market_call day line scan asked basis) = tt
 
-module _ (s next : Station) (outcome : Outcome) where
-  sheet_station_lem : (o : Option ℕ) → (sheet_result o s next outcome).station ≡ or_stays o s next
-  unfolding or_stays
-  sheet_station_lem None = refl
-  sheet_station_lem (Some n) = refl
-
-  sheet_reply_lem : (o : Option ℕ) → ((n : ℕ) → o ≡ Some n → number_of (refusal_of n) ≡ n)
-      → sheet_reply (sheet_result o s next outcome).answer ≡ or_refused o (Reply.outcome outcome.sum outcome.count (said_word outcome.phase) outcome.change)
-  sheet_reply_lem None k = refl
-  sheet_reply_lem (Some n) k = ap refused_by (k n refl)
+-- each kind of call, whatever number applies: the station that is left, and the reply
+abbrev Known : Option ℕ → Type 0
+Known o = (n : ℕ) → o ≡ Some n → number_of (refusal_of n) ≡ n
 
 module _ (s next : Station) where
-  repair_station_lem : (o : Option ℕ) → (repair_result o s next).station ≡ or_stays o s next
+  abbrev Settled : Option ℕ → Station → Reply → Reply → Type 0
+  Settled o left reply granted = (left ≡ or_stays o s next) × (reply ≡ or_refused o granted)
+
+  sheet_settled : (x : Outcome) (o : Option ℕ) → Known o
+      → let r = sheet_result o s next x in Settled o r.station (sheet_reply r.answer) (outcome x.sum x.count (said_word x.phase) x.change)
   unfolding or_stays
-  repair_station_lem None = refl
-  repair_station_lem (Some n) = refl
+  sheet_settled x None k = (refl, refl)
+  sheet_settled x (Some n) k = (refl, ap refused_by (k n refl))
 
-  repair_reply_lem : (o : Option ℕ) → ((n : ℕ) → o ≡ Some n → number_of (refusal_of n) ≡ n) → repair_reply (repair_result o s next).answer ≡ or_refused o repaired
-  repair_reply_lem None k = refl
-  repair_reply_lem (Some n) k = ap refused_by (k n refl)
-
-module _ (s next : Station) (c : Certificate) where
-  market_station_lem : (o : Option ℕ) → (market_result o s next c).station ≡ or_stays o s next
+  repair_settled : (o : Option ℕ) → Known o → let r = repair_result o s next in Settled o r.station (repair_reply r.answer) repaired
   unfolding or_stays
-  market_station_lem None = refl
-  market_station_lem (Some n) = refl
+  repair_settled None k = (refl, refl)
+  repair_settled (Some n) k = (refl, ap refused_by (k n refl))
 
-  market_reply_lem : (o : Option ℕ) → ((n : ℕ) → o ≡ Some n → number_of (refusal_of n) ≡ n)
-      → market_reply (market_result o s next c).answer ≡ or_refused o (certificate c.day c.intercept c.basis c.figure c.converted)
-  market_reply_lem None k = refl
-  market_reply_lem (Some n) k = ap refused_by (k n refl)
+  market_settled : (x : Certificate) (o : Option ℕ) → Known o
+      → let r = market_result o s next x in Settled o r.station (market_reply r.answer) (certificate x.day x.intercept x.basis x.figure x.converted)
+  unfolding or_stays
+  market_settled x None k = (refl, refl)
+  market_settled x (Some n) k = (refl, ap refused_by (k n refl))
 
-station_is : (s : Station) (c : Call) → station_after s c ≡ or_stays (first_number (checks_of s c)) s (next_of s c)
-unfolding station_after checks_of next_of sheet_of repair_of market_of
-station_is s (sheet_call day line numbers) =
-    sheet_station_lem s (sheet_station s day line numbers) (outcome_of s day line numbers) (first_number (checks_of s (sheet_call day line numbers)))
-station_is s (repair_call day) = repair_station_lem s (next_of s (repair_call day)) (first_number (checks_of s (repair_call day)))
-station_is s (market_call day line scan asked basis) =
-    market_station_lem s (next_of s (market_call day line scan asked basis)) (certificate_of s.row (values_of s line) line scan asked basis)
-    (first_number (checks_of s (market_call day line scan asked basis)))
+settled : (s : Station) (c : Call) → Settled s (next_of s c) (first_number (checks_of s c)) (station_after s c) (station_reply s c) (granted_of s c)
+unfolding station_after station_reply checks_of next_of granted_of sheet_of repair_of market_of
+settled s c = by c (λ n. known_number (checks_of s c) n (all_known s c))
+  where
+    by : (c : Call) → Known (first_number (checks_of s c))
+        → Settled s (next_of s c) (first_number (checks_of s c)) (station_after s c) (station_reply s c) (granted_of s c)
+    by (sheet_call day line numbers) k = sheet_settled s (sheet_station s day line numbers) (outcome_of s day line numbers) _ k
+    by (repair_call day) k = repair_settled s (repair_station s day) _ k
+    by (market_call day line scan asked basis) k = market_settled s (market_station s day) (certificate_of s.row (values_of s line) line scan asked basis) _ k
 
 pub reply_is : (s : Station) (c : Call) → station_reply s c ≡ or_refused (first_number (checks_of s c)) (granted_of s c)
-unfolding station_reply checks_of next_of granted_of sheet_of repair_of market_of
-reply_is s (sheet_call day line numbers) =
-    let cs = checks_of s (sheet_call day line numbers) in
-    sheet_reply_lem s (sheet_station s day line numbers) (outcome_of s day line numbers) (first_number cs)
-    (λ n. known_number cs n (all_known s (sheet_call day line numbers)))
-reply_is s (repair_call day) =
-    let cs = checks_of s (repair_call day) in
-    repair_reply_lem s (next_of s (repair_call day)) (first_number cs) (λ n. known_number cs n (all_known s (repair_call day)))
-reply_is s (market_call day line scan asked basis) =
-    let cs = checks_of s (market_call day line scan asked basis) in
-    market_reply_lem s (next_of s (market_call day line scan asked basis)) (certificate_of s.row (values_of s line) line scan asked basis) (first_number cs)
-    (λ n. known_number cs n (all_known s (market_call day line scan asked basis)))
+reply_is s c = (settled s c).1
 
 -- ---- the invariant
 
@@ -153,7 +139,7 @@ unfolding sound
 sound_station b ls a =
     let n = samples b.row in
     let k = line_count b.row in
-    to_true (row_exists b.row && leb b.day 99999 && all (sound_line n b.day) (take k ls))
+    is_true (row_exists b.row && leb b.day 99999 && all (sound_line n b.day) (take k ls))
     (and_i (row_exists b.row && leb b.day 99999) (all (sound_line n b.day) (take k ls))
     (and_i (row_exists b.row) (leb b.day 99999) a.exists (le→leb b.day 99999 a.last))
     (all_take (sound_line n b.day) k ls
@@ -218,27 +204,20 @@ module _ (b : Book) (ls : List Line) (a : Agrees ls b) where
 
 day_ok : (last day : ℕ) (cs : List (Check ℕ)) → first_number (day_check last day ∷ cs) ≡ None → (last ≤ day) × (day ≤ 99999)
 day_ok last day cs e =
-    let f = or_none (ltb day last) (ltb 99999 day) (none_head (day_check last day) cs e) in
+    let f = or_parts (ltb day last) (ltb 99999 day) (none_head (day_check last day) cs e) in
     (ltb-false day last f.0, ltb-false 99999 day f.1)
 
 pub line_ok : (row line : ℕ) (c : Check ℕ) (cs : List (Check ℕ)) → first_number (c ∷ line_check row line ∷ cs) ≡ None → line < line_count row
 line_ok row line c cs e =
-    ltb→lt line (line_count row) (not_false_T (ltb line (line_count row)) (none_head (line_check row line) cs (none_tail c (line_check row line ∷ cs) e)))
+    ltb-true line (line_count row) (not-false (ltb line (line_count row)) (none_head (line_check row line) cs (none_tail c (line_check row line ∷ cs) e)))
 
 -- a set that counts has the bounds that number 0 asks for
 set_sound : (n day : ℕ) (set : Set) → Bounded n set → eqb set.count 0 ≡ false → T (sound_set n (past_set day set))
 set_sound n day set h e =
-    and_i (eqb (set.count % 2) 0 && leb 2 set.count && leb set.count (2 * n)) (leb (nat_abs set.sum) (11000 * set.count))
-    (and_i (eqb (set.count % 2) 0 && leb 2 set.count) (leb set.count (2 * n))
-    (and_i (eqb (set.count % 2) 0) (leb 2 set.count) (eq→eqb {a = set.count % 2} {b = 0} h.even) (le→leb 2 set.count two))
-    (le→leb set.count (2 * n) h.most))
-    (le→leb (nat_abs set.sum) (11000 * set.count) h.size)
-  where
-    nonzero : set.count ≢ 0
-    nonzero = eqb-false set.count 0 e
-
-    two : 2 ≤ set.count
-    two = omega (arith, h.even, nonzero)
+    let even = h.even in
+    let most = h.most in
+    let size = h.size in
+    passes (sound_set n (past_set day set)) (grind (arith, nat_tests))
 
 -- ---- what an accepted call leaves
 
@@ -407,7 +386,7 @@ step b ls a c = go (book_number b c) refl
         record {
           reply = reply_same;
           lines = k.lines;
-          station = station_is s c ∙ ap (λ (o : Option ℕ). or_stays o s (next_of s c)) (number_same b ls a c ∙ e)
+          station = (settled s c).0 ∙ ap (λ (o : Option ℕ). or_stays o s (next_of s c)) (number_same b ls a c ∙ e)
               ∙ k.station ∙ sym (ap (λ (x : Book). station_of x k.lines) same);
           agrees = subst⁻¹ (λ (x : Book). Agrees k.lines x) same k.agrees;
         }
@@ -416,7 +395,7 @@ step b ls a c = go (book_number b c) refl
         record {
           reply = reply_same;
           lines = ls;
-          station = station_is s c ∙ ap (λ (o : Option ℕ). or_stays o s (next_of s c)) (number_same b ls a c ∙ e)
+          station = (settled s c).0 ∙ ap (λ (o : Option ℕ). or_stays o s (next_of s c)) (number_same b ls a c ∙ e)
               ∙ sym (ap (λ (x : Book). station_of x ls) same);
           agrees = subst⁻¹ (λ (x : Book). Agrees ls x) same a;
         }
@@ -436,10 +415,7 @@ reached b ls a [] = (ls, a)
 reached b ls a (c ∷ cs) = let k = step b ls a c in reached (book_after b c) k.lines k.agrees cs
 
 fresh_get_or : (i : ℕ) → get_or (replicate 3 fresh_line) i fresh_line ≡ fresh_line
-fresh_get_or zero = refl
-fresh_get_or (suc zero) = refl
-fresh_get_or (suc (suc zero)) = refl
-fresh_get_or (suc (suc (suc i))) = refl
+fresh_get_or i = grind (arith, common_steps)
 
 pub fresh_agrees : (row : ℕ) → T (row_exists row) → Agrees (replicate 3 fresh_line) (fresh_book row)
 unfolding book_values book_intercept book_phase book_past
@@ -468,4 +444,4 @@ pub opens_fresh : OpensFresh
 unfolding open_of
 opens_fresh row h =
     ap (λ (b : Bool). cond b (record { station = fresh_station row; answer = Ok tt }) (record { station = fresh_station 0; answer = Err (refusal_of 1) }))
-    (to_true (row_exists row) h)
+    (is_true (row_exists row) h)

@@ -6,8 +6,8 @@ use Rattle.std.specs.Prelude.{Some}
 use Prim.Native.Nat.{ℕ}
 use native.Mathlib.Omega.{arith}
 use lib.Dec.{eqb}
-use lib.IntN.{ℤ, nat_abs, ◌+ℤ◌}
-use Rattle.station_rules.specs.Lines.{LinePhase, new_line, open_line, adjusted_line, shut_line}
+use lib.IntN.{ℤ, ◌+ℤ◌}
+use Rattle.station_rules.specs.Lines.{LinePhase, new_line, open_line}
 use Rattle.station_rules.specs.Held.{repaired_phase}
 use Rattle.station_rules.specs.Books.{SheetEntry, Entry, sheet_entry, repair_entry, sheets_of, newest_touching, is_met_sheet, newest_unmet, newest_change, check_due_by, entry_set, book_intercept, book_phase, book_past, book_values}
 
@@ -41,21 +41,12 @@ met_not_unmet line (sheet_entry e ∷ es) h = go (eqb e.line line) h (met_not_un
         → newest_unmet (cond b (e ∷ sheets_of line es) (sheets_of line es)) ≡ false
     go true h ih = ap not h
     go false h ih = ih h
-met_not_unmet line (repair_entry d ∷ es) h = let q : ◌≡◌ {A = ℕ} 0 1 = cc in absurd (omega arith)
+met_not_unmet line (repair_entry d ∷ es) h = grind arith
 
--- which of the two a check due line is stays
-repaired_due : (change : ℤ) → check_due_by change ≡ repaired_phase (check_due_by change)
-repaired_due change = go (eqb (nat_abs change) 0)
-  where
-    go : (b : Bool) → cond b shut_line adjusted_line ≡ repaired_phase (cond b shut_line adjusted_line)
-    go true = refl
-    go false = refl
-
+-- a repair makes an open line new; which of the two a check due line is stays
 repaired_phase_lem : (met unmet : Bool) (change : ℤ) → (met ≡ true → unmet ≡ false)
     → cond unmet (check_due_by change) new_line ≡ repaired_phase (cond met open_line (cond unmet (check_due_by change) new_line))
-repaired_phase_lem true unmet change f = ap (λ (b : Bool). cond b (check_due_by change) new_line) (f refl)
-repaired_phase_lem false true change f = repaired_due change
-repaired_phase_lem false false change f = refl
+repaired_phase_lem met unmet change f = grind arith
 
 -- a repair
 pub repair_values : (line d : ℕ) (es : List Entry)

@@ -4,10 +4,12 @@ use mathlib.Core.Bool.{Bool, true, false, cond}
 use mathlib.Core.List.{List, [], ◌∷◌, ◌++◌, map}
 use Rattle.std.specs.Prelude.{Option, None, Some}
 use Prim.Native.Nat.{ℕ}
+use native.Mathlib.Omega.{arith}
 use lib.Dec.{eqb}
 use lib.ListN.{length}
 use Rattle.std.specs.List.{slice_get}
-use lib.IntN.{ℤ, pos, ◌+ℤ◌, +ℤ_assoc, +ℤ_comm, +ℤ_idl, +ℤ_idr}
+use lib.IntN.{ℤ, pos, ◌+ℤ◌, +ℤ_idl, +ℤ_idr}
+use Rattle.std.proofs.lemmas.Int.{ints}
 use Rattle.whole.specs.Lists.{total}
 use Rattle.station_rules.specs.Replies.{refused_by}
 use Rattle.station_rules.specs.Calls.{Call, sheet_call, repair_call, market_call}
@@ -52,7 +54,7 @@ call_change line b c = go (book_number b c)
 
 -- x + i and then g is i and then x + g
 regroup : (x i g : ℤ) → (x +ℤ i) +ℤ g ≡ i +ℤ (x +ℤ g)
-regroup x i g = ap (λ (z : ℤ). z +ℤ g) (+ℤ_comm x i) ∙ +ℤ_assoc i x g
+regroup x i g = omega (arith, ints)
 
 changes_from : (line : ℕ) (b : Book) (calls : List Call)
     → book_intercept line (book_after_all b calls).entries ≡ book_intercept line b.entries +ℤ changes_given line calls (book_replies b calls)

@@ -1,18 +1,18 @@
 -- The first number that applies: where there is none, no check applies; and a number's refusal has that number.
 use mathlib.Core.Path.{◌≡◌, refl, ◌∙◌, subst}
-use mathlib.Core.Bool.{Bool, true, false, cond, true≢false}
+use mathlib.Core.Bool.{Bool, true, false, cond}
 use mathlib.Core.List.{List, [], ◌∷◌}
 use Rattle.std.specs.Prelude.{Option, None, Some}
 use Prim.Native.Nat.{ℕ}
 use native.Mathlib.Omega.{arith}
 use lib.Dec.{T, eqb, eqb→eq}
+use Rattle.std.proofs.lemmas.Bool.{cond-false}
 use Rattle.whole.specs.Lists.{all, Check}
-use Rattle.whole.proofs.Tests.{and_l, and_r}
+use lib.Ieee.Fits.{and_l, and_r}
 use Rattle.station_rules.specs.Refusals.{first_number, number_of, refusal_of}
 
 cond_none : (a : Bool) (n : ℕ) (o : Option ℕ) → cond a (Some n) o ≡ None → (a ≡ false) × (o ≡ None)
-cond_none true n o e = let z : ◌≡◌ {A = ℕ} 0 1 = cc in absurd (omega arith)
-cond_none false n o e = (refl, e)
+cond_none a n o e = grind arith
 
 pub none_head : (c : Check ℕ) (cs : List (Check ℕ)) → first_number (c ∷ cs) ≡ None → c.applies ≡ false
 none_head c cs e = (cond_none c.applies c.answer (first_number cs) e).0
@@ -22,8 +22,7 @@ none_tail c cs e = (cond_none c.applies c.answer (first_number cs) e).1
 
 -- a check that doesn't apply is passed over
 pub passed_over : (a : Bool) (n : ℕ) (o : Option ℕ) → a ≡ false → cond a (Some n) o ≡ o
-passed_over true n o e = absurd (true≢false e)
-passed_over false n o e = refl
+passed_over a n o e = cond-false a (Some n) o e
 
 -- no check of a list applies
 abbrev pub NoneApplies : List (Check ℕ) → Type 0
@@ -40,7 +39,7 @@ no_number (c ∷ cs) f = passed_over c.applies c.answer (first_number cs) f.0 �
 
 -- the number that applies passes a test that every number of the list passes
 pub number_passes : (p : ℕ → Bool) (cs : List (Check ℕ)) (n : ℕ) → T (all (λ c. p c.answer) cs) → first_number cs ≡ Some n → T (p n)
-number_passes p [] n t e = let z : ◌≡◌ {A = ℕ} 0 1 = cc in absurd (omega arith)
+number_passes p [] n t e = grind arith
 number_passes p (c ∷ cs) n t e = go c.applies e (number_passes p cs n (and_r (p c.answer) (all (λ c. p c.answer) cs) t))
   where
     go : (a : Bool) → cond a (Some c.answer) (first_number cs) ≡ Some n → (first_number cs ≡ Some n → T (p n)) → T (p n)
@@ -53,7 +52,7 @@ Passes p [] = Unit {0}
 Passes p (c ∷ cs) = (c.applies ≡ true → T (p c.answer)) × (c.applies ≡ false → Passes p cs)
 
 pub first_passes : (p : ℕ → Bool) (cs : List (Check ℕ)) (n : ℕ) → Passes p cs → first_number cs ≡ Some n → T (p n)
-first_passes p [] n t e = let z : ◌≡◌ {A = ℕ} 0 1 = cc in absurd (omega arith)
+first_passes p [] n t e = grind arith
 first_passes p (c ∷ cs) n t e = go c.applies refl e (first_passes p cs n)
   where
     go : (a : Bool) → c.applies ≡ a → cond a (Some c.answer) (first_number cs) ≡ Some n → (Passes p cs → first_number cs ≡ Some n → T (p n)) → T (p n)

@@ -49,9 +49,9 @@ applies_above b (market_call day line scan asked basis) n e =
 
 granted_not : (b : Book) (c : Call) → granted_reply b c ≡ refused_by 0 → ⊥
 unfolding granted_reply
-granted_not b (sheet_call day line numbers) e = let q : ◌≡◌ {A = ℕ} 0 1 = cc in omega arith
-granted_not b (repair_call day) e = let q : ◌≡◌ {A = ℕ} 0 1 = cc in omega arith
-granted_not b (market_call day line scan asked basis) e = let q : ◌≡◌ {A = ℕ} 0 1 = cc in omega arith
+granted_not b (sheet_call day line numbers) e = grind arith
+granted_not b (repair_call day) e = grind arith
+granted_not b (market_call day line scan asked basis) e = grind arith
 
 book_never0 : (b : Book) (c : Call) → book_reply b c ≡ refused_by 0 → ⊥
 unfolding book_reply
@@ -84,7 +84,7 @@ module _ (b : Book) (day line : ℕ) (scan : Scan) (asked : Asked) (basis : Basi
           → or_refused o (granted_reply b (market_call day line scan asked basis)) ≡ certificate d i basis' figure converted
           → Given d i basis' figure converted
       go None r e = record { none_applies = r; intercept_is = cc; basis_is = cc; figure_is = cc }
-      go (Some n) r e = let q : ◌≡◌ {A = ℕ} 0 1 = cc in absurd (omega arith)
+      go (Some n) r e = grind arith
 
   -- where the conditions hold it does
   issued : MarketConditions b day line scan asked basis

@@ -1,23 +1,15 @@
 -- Ranges of a market test's numbers; "for the standard basis both are equal".
-use mathlib.Core.Path.{◌≡◌, sym, ◌∙◌, ap₂}
-use mathlib.Core.Bool.{true, ◌&&◌, true≢false}
+use mathlib.Core.Path.{◌≡◌, ◌∙◌, ap₂}
 use Prim.Native.Nat.{ℕ, ◌+◌, ◌-◌, ◌*◌, ◌/◌, ◌<◌}
 use native.Mathlib.Nat.{mul_assoc, mul_left_comm, add-mul, mul-div-mul_right}
 use native.Mathlib.Omega.{arith}
-use lib.Dec.{leb, leb→le, lit<}
-use lib.IntN.{ℤ, pos, negsuc, nat_abs}
-use Rattle.whole.proofs.Parts.{Within}
-use Rattle.whole.proofs.Tests.{and_r, of_true}
-use Rattle.station_rules.specs.Markets.{basis_from, corrected_value, within, tenths, tenths_at, certificate_of}
+use lib.Dec.{lit<}
+use lib.IntN.{nat_abs}
+use Rattle.station_rules.specs.Markets.{basis_from, corrected_value, tenths, tenths_at, certificate_of}
 use Rattle.station_rules.specs.Laws.{StandardEqual}
 use Rattle.station_rules.specs.declared.Asked.{Asked}
 use Rattle.station_rules.specs.declared.Asked.TheVariants.{LineFigure, Gluten}
 use Rattle.station_rules.proofs.RowFacts.{row_facts}
-
--- a value of 0..n
-pub in_range_lem : (n : ℕ) (z : ℤ) → within 0 n z ≡ true → Within 0 n z
-in_range_lem n (pos m) e = let h = leb→le m n (and_r (leb 0 m) (leb m n) (of_true (leb 0 m && leb m n) e)) in omega arith
-in_range_lem n (negsuc m) e = absurd (true≢false (sym e))
 
 pub same_tenths : (a h : ℕ) → 0 < 10000 - a → tenths_at a a h ≡ tenths h
 unfolding tenths tenths_at

@@ -1,25 +1,25 @@
 -- By the numbers 12, 25 and 26 every list of calls is answered as by the former number 12, but for that number.
 use mathlib.Core.Path.{◌≡◌, refl, sym, ◌∙◌, ap, ap₂}
 use mathlib.Core.Bool.{Bool, true, false, not, ◌||◌, cond}
-use mathlib.Core.List.{List, [], ◌∷◌, map}
+use mathlib.Core.List.{List, [], ◌∷◌, ◌++◌, map}
+use lib.ListN.{take, drop}
+use lib.Ieee.Fits.{and_l, and_r}
 use Rattle.std.specs.Prelude.{Option, None, Some}
 use Prim.Native.Nat.{ℕ, zero, suc, ◌+◌}
 use native.Mathlib.Omega.{arith}
 use lib.Dec.{T, ltb, eqb, eqb→eq}
 use Rattle.std.specs.List.{slice_get}
 use lib.IntN.{ℤ, nat_abs}
-use Rattle.whole.specs.Lists.{Check}
-use Rattle.reading.specs.Reading.{in_range}
+use Rattle.whole.specs.Lists.{all, Check}
 use Rattle.station_rules.specs.Refusals.{first_number, number_of, refusal_of}
-use Rattle.station_rules.specs.Readings.{scan_serves, asked_float}
 use Rattle.station_rules.specs.Sheets.{sheet_checks}
-use Rattle.station_rules.specs.Lines.{LinePhase, new_line, open_line, adjusted_line, shut_line, Values}
-use Rattle.station_rules.specs.Markets.{is_new, is_adjusted, is_shut, basis_of, basis_from, corrected_value, other_class, other_basis, newest_day, within, too_high, market_checks, certificate_of}
+use Rattle.station_rules.specs.Lines.{LinePhase, Values}
+use Rattle.station_rules.specs.Markets.{is_new, is_adjusted, is_shut, basis_of, basis_from, corrected_value, newest_day, too_high, market_checks, certificate_of}
 use Rattle.station_rules.specs.Judging.{day_check, line_check, sheet_numbers, market_numbers}
 use Rattle.station_rules.specs.Held.{Station}
 use Rattle.station_rules.specs.Soundness.{sound_check}
 use Rattle.station_rules.specs.Stations.{values_of, market_station, market_result, market_of}
-use Rattle.station_rules.specs.Replies.{Reply, refused_by, opening, outcome, repaired, certificate, market_reply}
+use Rattle.station_rules.specs.Replies.{Reply, refused_by, certificate, market_reply}
 use Rattle.station_rules.specs.Calls.{Call, sheet_call, repair_call, market_call, station_after, station_reply, replies, station_after_all}
 use Rattle.station_rules.specs.Books.{or_refused}
 use Rattle.station_rules.specs.Former.{is_open, former_checks, former_market, former_after, former_reply, former_replies, former_after_all, former_number, as_formerly}
@@ -46,11 +46,20 @@ same_check false n o p e h = h
 phase_checks : (phase : LinePhase) (old high : Bool)
     → cond (not (is_open phase)) (Some 12) (cond old (Some 13) (cond high (Some 14) None))
     ≡ formerly (cond (is_new phase) (Some 12) (cond (is_adjusted phase) (Some 25) (cond (is_shut phase) (Some 26) (cond old (Some 13) (cond high (Some 14) None)))))
-phase_checks new_line old high = refl
-phase_checks open_line old high =
-    same_check old 13 (cond high (Some 14) None) (cond high (Some 14) None) refl (same_check high 14 None None refl refl)
-phase_checks adjusted_line old high = refl
-phase_checks shut_line old high = refl
+phase_checks phase old high = grind arith
+
+-- a number that was always the same: neither 25 nor 26
+abbrev stays : ℕ → Bool
+stays n = eqb (former_number n) n
+
+-- checks of both lists, before others
+same_before : (before after was : List (Check ℕ)) → T (all (λ c. stays c.answer) before) → first_number was ≡ formerly (first_number after)
+    → first_number (before ++ was) ≡ formerly (first_number (before ++ after))
+same_before [] after was t e = e
+same_before (c ∷ cs) after was t e =
+    same_check c.applies c.answer (first_number (cs ++ after)) (first_number (cs ++ was))
+    (eqb→eq (former_number c.answer) c.answer (and_l (stays c.answer) (all (λ c. stays c.answer) cs) t))
+    (same_before cs after was (and_r (stays c.answer) (all (λ c. stays c.answer) cs) t) e)
 
 module _ (s : Station) (day line : ℕ) (scan : Scan) (asked : Asked) (basis : Basis) where
   abbrev v : Values
@@ -63,18 +72,8 @@ module _ (s : Station) (day line : ℕ) (scan : Scan) (asked : Asked) (basis : B
   unfolding former_all former_checks checks_of market_numbers market_checks
   number_was =
       let a = basis_from s.row asked in
-      let b = basis_of a basis in
-      let h = corrected_value v scan asked line in
-      same_check (sound_check s).applies 0 _ _ refl
-      (same_check (day_check s.day day).applies 2 _ _ refl
-      (same_check (line_check s.row line).applies 3 _ _ refl
-      (same_check (not (scan_serves s.row scan asked)) 8 _ _ refl
-      (same_check (other_class asked) 23 _ _ refl
-      (same_check (other_basis asked basis) 24 _ _ refl
-      (same_check (not (in_range (asked_float scan asked line))) 9 _ _ refl
-      (same_check (not (within 0 5000 b)) 10 _ _ refl
-      (same_check (not (within 0 10000 h)) 11 _ _ refl
-      (phase_checks v.phase (ltb (newest_day v.past + 7) day) (too_high a (nat_abs b) (nat_abs h)))))))))))
+      same_before (take 9 former_all) (drop 9 (checks_of s (market_call day line scan asked basis))) (drop 9 former_all) tt
+      (phase_checks v.phase (ltb (newest_day v.past + 7) day) (too_high a (nat_abs (basis_of a basis)) (nat_abs (corrected_value v scan asked line))))
 
 -- ---- a market test
 
@@ -106,10 +105,7 @@ after_same s (market_call day line scan asked basis) =
     ap (λ (o : Option ℕ). (market_result o s (market_station s day) c).station) (number_was s day line scan asked basis)
     ∙ same_station s (market_station s day) c (first_number (checks_of s (market_call day line scan asked basis)))
 
--- a number of a sheet or a repair is neither 25 nor 26
-abbrev stays : ℕ → Bool
-stays n = eqb (former_number n) n
-
+-- a number of a sheet or a repair stays
 refused_same : (cs : List (Check ℕ)) (reply : Reply) → ((n : ℕ) → first_number cs ≡ Some n → T (stays n)) → reply ≡ as_formerly reply
     → or_refused (first_number cs) reply ≡ as_formerly (or_refused (first_number cs) reply)
 refused_same cs reply f e = go (first_number cs) refl
@@ -160,12 +156,7 @@ module _ (d : ℕ) (i b : ℤ) (figure converted : ℕ) where
   given = certificate d i b figure converted
 
   was_certificate : (o : Option Reply) → reply_was o ≡ Some given → o ≡ Some given
-  was_certificate None e = let z : ◌≡◌ {A = ℕ} 0 1 = cc in absurd (omega arith)
-  was_certificate (Some (refused_by n)) e = let z : ◌≡◌ {A = ℕ} 0 1 = cc in absurd (omega arith)
-  was_certificate (Some opening) e = e
-  was_certificate (Some (outcome sum count phase change)) e = e
-  was_certificate (Some repaired) e = e
-  was_certificate (Some (certificate d' i' b' figure' converted')) e = e
+  was_certificate o e = grind arith
 
 pub certified_as_before : CertifiedAsBefore
 certified_as_before =

@@ -3,18 +3,17 @@ use mathlib.Core.Path.{◌≡◌, refl, sym, ◌∙◌, ap, subst}
 use mathlib.Core.Bool.{Bool, true, false, not, ◌||◌, ◌&&◌, true≢false}
 use mathlib.Core.List.{List, ◌∷◌, map}
 use Rattle.std.specs.Prelude.{Ok, Option, None, Some}
-use Prim.Native.Nat.{ℕ, zero, suc, ◌+◌, ◌*◌, ◌-◌, ◌/◌}
+use Prim.Native.Nat.{ℕ, zero, suc, ◌*◌, ◌-◌, ◌≤◌}
 use native.Mathlib.Omega.{arith}
-use lib.Dec.{T, eqb, lit<}
+use lib.Dec.{T, eqb}
 use lib.Ieee.{Float, of_bits}
-use lib.IntN.{ℤ, pos, negsuc, neg_ℤ, nat_abs, ◌-ℤ◌, ◌*ℤ◌}
-use borrow.Author.Tests.{not-false, ltb-true}
-use Rattle.std.proofs.lemmas.Int.{ints}
+use lib.IntN.{ℤ, pos, nat_abs, ◌-ℤ◌, ◌*ℤ◌}
+use lib.Signed.{le_z}
+use Rattle.std.proofs.lemmas.Bool.{not-false, ltb-true, and_parts}
+use Rattle.std.proofs.lemmas.Int.{ints, by_lt_z}
 use Rattle.whole.specs.Lists.{Check}
-use Rattle.whole.proofs.Parts.{up, down}
 use Rattle.whole.specs.Rounding.{rounded_away}
-use Rattle.whole.proofs.PartLaws.{either, size_parts, neg_up, neg_down, times, diff}
-use Rattle.whole.proofs.RoundLaws.{rounded_below}
+use Rattle.whole.proofs.RoundLaws.{rounded_below, rounded_above}
 use Rattle.reading.specs.Reading.{units_of, in_range, reading_of}
 use Rattle.station_rules.specs.Rows.{row_of, samples, standard_basis, line_count}
 use Rattle.station_rules.specs.Refusals.{first_number}
@@ -40,57 +39,23 @@ use Rattle.station_rules.specs.declared.Basis.{Basis}
 use Rattle.station_rules.specs.declared.Basis.TheVariants.{Standard, Dry, Specified, AsIs}
 use Rattle.station_rules.proofs.Checks.{none_applies, Passes, first_passes}
 use Rattle.station_rules.proofs.Conditions.{basis_from_lem}
-use Rattle.station_rules.proofs.Figures.{in_range_lem, same_tenths, basis_room}
-use Rattle.station_rules.proofs.Magnitudes.{abs_neg}
-use Rattle.station_rules.proofs.Distance.{div_below, div_above}
+use Rattle.station_rules.proofs.Figures.{same_tenths, basis_room}
 use Rattle.station_rules.proofs.Agreement.{checks_of, granted_of, reply_is}
 
 -- ---- the intercept
 
--- how far it lies above 0 and below, each by that part of the protein intercept
-abbrev part : ℕ → ℕ
-part n = (2 * (n * 3029) + 1000) / 2000
-
-module _ (m : ℕ) where
-  abbrev product_below : ℤ
-  product_below = negsuc m *ℤ pos 3029
-
-  -- the magnitude of a product below 0
-  size_is : nat_abs product_below ≡ suc m * 3029
-  size_is = abs_neg (pos (suc m * 3029))
-
-  below_is : derived_intercept (negsuc m) ≡ neg_ℤ (pos ((2 * nat_abs product_below + 1000) / 2000))
-  unfolding derived_intercept
-  below_is = sym (rounded_below product_below 1000 (omega (arith, ints)))
-
-derived_up : (i : ℤ) → up (derived_intercept i) ≡ part (up i)
-unfolding derived_intercept rounded_away
-derived_up (pos m) = refl
-derived_up (negsuc m) = ap up (below_is m) ∙ neg_up (pos ((2 * nat_abs (product_below m) + 1000) / 2000))
-
-derived_down : (i : ℤ) → down (derived_intercept i) ≡ part (down i)
-unfolding derived_intercept rounded_away
-derived_down (pos m) = refl
-derived_down (negsuc m) =
-    ap down (below_is m) ∙ neg_down (pos ((2 * nat_abs (product_below m) + 1000) / 2000))
-    ∙ ap (λ (n : ℕ). (2 * n + 1000) / 2000) (omega (arith, size_is m))
+-- z in thousandths, rounded
+rounded_within : (z : ℤ) → 2 * nat_abs (pos 1000 *ℤ rounded_away z 1000 -ℤ z) ≤ 1000
+rounded_within z =
+    by_lt_z z (pos 0)
+    (λ h. let e = rounded_below z 1000 h in omega (arith, ints))
+    (λ h. let e = rounded_above z 1000 h in omega (arith, ints))
 
 pub derived_nearest : (i : ℤ) → DerivedNearest i
+unfolding derived_intercept
 derived_nearest i =
-    let d = derived_intercept i in
-    let u = derived_up i in
-    let w = derived_down i in
-    let u-low = div_below (2 * (up i * 3029) + 1000) 2000 in
-    let u-high = div_above (2 * (up i * 3029) + 1000) 2000 (lit< tt) in
-    let w-low = div_below (2 * (down i * 3029) + 1000) 2000 in
-    let w-high = div_above (2 * (down i * 3029) + 1000) 2000 (lit< tt) in
-    let a = times (pos 1000) d in
-    let b = times (pos 3029) i in
-    let r = diff (pos 1000 *ℤ d) (pos 3029 *ℤ i) in
-    record {
-      nearest = omega (arith, u, w, u-low, u-high, w-low, w-high, a, b, r, either i, either d, either (pos 1000 *ℤ d -ℤ pos 3029 *ℤ i), size_parts (pos 1000 *ℤ d -ℤ pos 3029 *ℤ i));
-      small = λ h. omega (arith, h, u, w, u-low, w-low, either d, size_parts i, size_parts d);
-    }
+    let w = rounded_within (i *ℤ pos 3029) in
+    record { nearest = omega (arith, ints, w); small = λ h. omega (arith, ints, w, h) }
 
 -- ---- the certificate
 
@@ -125,7 +90,7 @@ gluten_certificate_lem s day line scan class basis c e = go (first_number checks
         let standard = basis_from_lem (Gluten class) basis (none_applies checks q).1.1.1.1.1.0 class refl in
         let same : c ≡ certificate_of s.row v line scan (Gluten class) basis = cc in
         same ∙ ap (certificate_of s.row v line scan (Gluten class)) standard ∙ at_standard s.row v line scan class
-    go (Some n) q e = let z : ◌≡◌ {A = ℕ} 0 1 = cc in absurd (omega arith)
+    go (Some n) q e = grind arith
 
 -- ---- numbers 10 and 14
 
@@ -136,19 +101,16 @@ neither n = not (eqb n 10 || eqb n 14)
 -- where 24 doesn't apply B is 1400, within its bounds
 basis_right : (class : WheatClass) (basis : Basis) → other_basis (Gluten class) basis ≡ false → not (within 0 5000 (basis_of 1400 basis)) ≡ true → ⊥
 unfolding other_basis
-basis_right class Standard e f = true≢false (sym f)
-basis_right class Dry e f = true≢false e
-basis_right class (Specified b) e f = true≢false e
-basis_right class (AsIs moisture) e f = true≢false e
+basis_right class basis e f = grind arith
 
 -- and h, where 11 doesn't apply, is not converted
 value_right : (class : WheatClass) (basis : Basis) (h : ℤ) → other_basis (Gluten class) basis ≡ false → not (within 0 10000 h) ≡ false
     → too_high 1400 (nat_abs (basis_of 1400 basis)) (nat_abs h) ≡ true → ⊥
 unfolding other_basis too_high
 value_right class Standard h e f g =
-    let w = in_range_lem 10000 h (not-false (within 0 10000 h) f) in
+    let w = and_parts (le_z (pos 0) h) (le_z h (pos 10000)) (not-false (within 0 10000 h) f) in
     let over = ltb-true (10000 * (10000 - 1400)) (nat_abs h * (10000 - 1400)) g in
-    omega (arith, size_parts h)
+    omega (arith, ints, w.1, over)
 value_right class Dry h e f g = true≢false e
 value_right class (Specified b) h e f g = true≢false e
 value_right class (AsIs moisture) h e f g = true≢false e
@@ -211,7 +173,7 @@ module _ (s : Station) (day line : ℕ) (scan : Scan) (class : WheatClass) (basi
     where
       go : (o : Option ℕ) → first_number (checks_of s (market_call day line scan (Gluten class) basis)) ≡ o
           → or_refused o (granted_of s (market_call day line scan (Gluten class) basis)) ≡ refused_by n → ⊥
-      go None q r = let z : ◌≡◌ {A = ℕ} 0 1 = cc in omega arith
+      go None q r = grind arith
       go (Some m) q r =
           let z : m ≡ n = cc in
           f (subst (λ (k : ℕ). T (neither k)) z (first_passes neither (checks_of s (market_call day line scan (Gluten class) basis)) m passes q))

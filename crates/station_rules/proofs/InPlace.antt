@@ -11,10 +11,11 @@ use lib.ListN.{length, take, set}
 use borrow.Author.Tests.{eqb-true, not-false}
 use Rattle.whole.specs.Lists.{all, Check}
 use Rattle.whole.proofs.Spelled.{elements, spelled}
-use Rattle.whole.proofs.Tests.{and_l, of_true}
+use Rattle.std.specs.Bool.{passes}
+use Rattle.std.proofs.lemmas.Bool.{and_parts}
 use Rattle.station_rules.specs.Rows.{row_exists, samples, line_count, limits_of}
 use Rattle.station_rules.specs.Refusals.{first_number, refusal_of}
-use Rattle.station_rules.specs.Lines.{LinePhase, new_line, open_line, adjusted_line, shut_line, Values, past_set}
+use Rattle.station_rules.specs.Lines.{LinePhase, new_line, open_line, adjusted_line, shut_line, past_set}
 use Rattle.station_rules.specs.Held.{Station, phase_word, opened, line_after, repaired_line}
 use Rattle.station_rules.specs.Soundness.{sound_line, sound, sound_check}
 use Rattle.station_rules.specs.Sheets.{sheet_checks}
@@ -29,7 +30,6 @@ use Rattle.station_rules.specs.declared.PastSet.{PastSet}
 use Rattle.station_rules.specs.declared.Line.{Line}
 use Rattle.station_rules.specs.declared.Verdict.{Verdict}
 use Rattle.station_rules.specs.declared.Verdict.TheVariants.{Met, Adjusted, Shut}
-use Rattle.station_rules.specs.declared.Certificate.{Certificate}
 use Rattle.station_rules.specs.declared.Scan.{Scan}
 use Rattle.station_rules.specs.declared.Asked.{Asked}
 use Rattle.station_rules.specs.declared.Basis.{Basis}
@@ -51,8 +51,8 @@ all_places words e =
     let row = row_exists s.row in
     let day = leb s.day 99999 in
     let lines = all (sound_line (samples s.row) s.day) (take (line_count s.row) s.lines) in
-    eqb-true (length words) 47
-    (no_row (eqb (length words) 47) (natural (place words 0)) (and_l row day (and_l (row && day) lines (of_true (row && day && lines) e))))
+    let there = (and_parts row day (and_parts (row && day) lines e).0).0 in
+    eqb-true (length words) 47 (no_row (eqb (length words) 47) (natural (place words 0)) (passes row there))
 
 -- ---- a line's places
 
@@ -213,60 +213,51 @@ open_holds row = go (row_exists row)
     go true = refl
     go false = refl
 
--- where no number applies, the station is sound, so it has 47 places
-places_47 : (words : List ℤ) (cs : List (Check ℕ)) → first_number (sound_check (station_in words) ∷ cs) ≡ None → length words ≡ 47
-places_47 words cs e = all_places words (not-false (sound (station_in words)) (none_head (sound_check (station_in words)) cs e))
+-- a call on a station in its places: a refused one leaves them, and where no number applies, the station is sound, so it has 47 places
+module _ (words : List ℤ) (numbers : List (Check ℕ)) (left : Option ℕ → List ℤ) (station : Option ℕ → Station) where
+  abbrev checks : List (Check ℕ)
+  checks = sound_check (station_in words) ∷ numbers
+
+  settled : ((n : ℕ) → station_in (left (Some n)) ≡ station (Some n))
+      → (first_number checks ≡ None → length words ≡ 47 → station_in (left None) ≡ station None)
+      → station_in (left (first_number checks)) ≡ station (first_number checks)
+  settled refused accepted = go (first_number checks) refl
+    where
+      go : (o : Option ℕ) → first_number checks ≡ o → station_in (left o) ≡ station o
+      go (Some n) e = refused n
+      go None e = accepted e (all_places words (not-false (sound (station_in words)) (none_head (sound_check (station_in words)) numbers e)))
 
 pub sheet_holds : (words : List ℤ) (day line : ℕ) (numbers : List ℤ)
     → station_in (sheet_in words day line numbers).places ≡ (sheet_of (station_in words) day line numbers).station
 unfolding sheet_in sheet_of sheet_numbers
-sheet_holds words day line numbers = go (first_number (sound_check s ∷ sheet_numbers s.row s.day v day line numbers)) refl
-  where
-    s : Station
-    s = station_in words
-
-    v : Values
-    v = values_of s line
-
-    go : (o : Option ℕ) → first_number (sound_check s ∷ sheet_numbers s.row s.day v day line numbers) ≡ o
-        → station_in (sheet_left (sheet_result o s (sheet_station s day line numbers) (outcome_of s day line numbers)).answer words (sheet_places words day line numbers))
-        ≡ (sheet_result o s (sheet_station s day line numbers) (outcome_of s day line numbers)).station
-    go (Some n) e = refl
-    go None e =
-        let cs = sheet_checks (limits_of s.row line) v.intercept (samples s.row) numbers in
-        let here = line_ok s.row line (day_check s.day day) cs (none_tail (sound_check s) (day_check s.day day ∷ line_check s.row line ∷ cs) e) in
-        sheet_written words (places_47 words (sheet_numbers s.row s.day v day line numbers) e) day line numbers (omega (arith, (row_facts s.row).three_lines))
+sheet_holds words day line numbers =
+    let s = station_in words in
+    let v = values_of s line in
+    let result = λ (o : Option ℕ). sheet_result o s (sheet_station s day line numbers) (outcome_of s day line numbers) in
+    let cs = sheet_checks (limits_of s.row line) v.intercept (samples s.row) numbers in
+    settled words (sheet_numbers s.row s.day v day line numbers) (λ o. sheet_left (result o).answer words (sheet_places words day line numbers)) (λ o. (result o).station)
+    (λ n. refl)
+    (λ e full.
+    let here = line_ok s.row line (day_check s.day day) cs (none_tail (sound_check s) (day_check s.day day ∷ line_check s.row line ∷ cs) e) in
+    sheet_written words full day line numbers (omega (arith, (row_facts s.row).three_lines)))
 
 pub repair_holds : (words : List ℤ) (day : ℕ) → station_in (repair_in words day).places ≡ (repair_of (station_in words) day).station
 unfolding repair_in repair_of
-repair_holds words day = go (first_number (sound_check s ∷ repair_numbers s.day day)) refl
-  where
-    s : Station
-    s = station_in words
-
-    go : (o : Option ℕ) → first_number (sound_check s ∷ repair_numbers s.day day) ≡ o
-        → station_in (repair_left (repair_result o s (repair_station s day)).answer words (repair_places words day)) ≡ (repair_result o s (repair_station s day)).station
-    go (Some n) e = refl
-    go None e = repair_written words (places_47 words (repair_numbers s.day day) e) day
+repair_holds words day =
+    let s = station_in words in
+    let result = λ (o : Option ℕ). repair_result o s (repair_station s day) in
+    settled words (repair_numbers s.day day) (λ o. repair_left (result o).answer words (repair_places words day)) (λ o. (result o).station)
+    (λ n. refl) (λ e full. repair_written words full day)
 
 pub market_holds : (words : List ℤ) (day line : ℕ) (scan : Scan) (asked : Asked) (basis : Basis)
     → station_in (market_in words day line scan asked basis).places ≡ (market_of (station_in words) day line scan asked basis).station
 unfolding market_in market_of
-market_holds words day line scan asked basis = go (first_number (sound_check s ∷ numbers)) refl
-  where
-    s : Station
-    s = station_in words
-
-    numbers : List (Check ℕ)
-    numbers = market_numbers s.row s.day (values_of s line) day line scan asked basis
-
-    c : Certificate
-    c = certificate_of s.row (values_of s line) line scan asked basis
-
-    go : (o : Option ℕ) → first_number (sound_check s ∷ numbers) ≡ o
-        → station_in (market_left (market_result o s (market_station s day) c).answer words (market_places words day)) ≡ (market_result o s (market_station s day) c).station
-    go (Some n) e = refl
-    go None e = day_written words (places_47 words numbers e) day
+market_holds words day line scan asked basis =
+    let s = station_in words in
+    let v = values_of s line in
+    let result = λ (o : Option ℕ). market_result o s (market_station s day) (certificate_of s.row v line scan asked basis) in
+    settled words (market_numbers s.row s.day v day line scan asked basis) (λ o. market_left (result o).answer words (market_places words day)) (λ o. (result o).station)
+    (λ n. refl) (λ e full. day_written words full day)
 
 pub holds_station : HoldsStation
 holds_station = record { opening = open_holds; sheet = sheet_holds; repair = repair_holds; market = market_holds }

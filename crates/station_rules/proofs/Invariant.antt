@@ -8,14 +8,16 @@ use lib.Dec.{T, leb, le→leb}
 use lib.ListN.{length, take, length-take}
 use lib.Seq.{length-take-le}
 use lib.IntN.{ℤ, pos, nat_abs, ◌+ℤ◌, +ℤ_comm, +ℤ_idl}
-use lib.Ieee.Fits.{eq→eqb}
+use lib.Ieee.Fits.{eq→eqb, and_i}
+use Rattle.std.specs.Bool.{passes}
+use Rattle.std.proofs.lemmas.Bool.{le-leb}
 use Rattle.whole.specs.Lists.{all}
+use lib.Ieee.Bits.{is_true}
 use Rattle.station_rules.specs.Lines.{LinePhase, new_line, open_line, adjusted_line, shut_line, Values, change_of, phase_after, is_met, sound_intercept}
 use Rattle.station_rules.specs.Held.{phase_exists, phase_word, phase_code, fresh_line, line_values, joined, only_past, opened, closed, line_after, repaired_phase, repaired_line}
-use Rattle.station_rules.specs.Soundness.{days_fall, sound_set, held_in, sound_held, sound_line}
+use Rattle.station_rules.specs.Soundness.{days_fall, sound_set, held_in, sound_line}
 use Rattle.station_rules.specs.declared.PastSet.{PastSet}
 use Rattle.station_rules.specs.declared.Line.{Line}
-use Rattle.whole.proofs.Tests.{and_i}
 use Rattle.whole.proofs.Elements.{all_take, take_min}
 use Rattle.station_rules.proofs.Phases.{repaired_word, repaired_known}
 use Rattle.station_rules.proofs.NewestFour.{newest_four, falls_later, falls_take}
@@ -66,15 +68,13 @@ held_sound shut_line held past e f = eq→eqb {a = held} {b = 0} (omega (arith, 
 pub line_sound : (n d : ℕ) (l : Line) (v : Values) → LineAgrees n d l v → T (sound_line n d l)
 unfolding sound_line
 line_sound n d l v a =
-    and_i (sound_intercept l.intercept && sound_held l.phase l.held && days_fall d (line_values l).past) (all (sound_set n) (line_values l).past)
-    (and_i (sound_intercept l.intercept && sound_held l.phase l.held) (days_fall d (line_values l).past)
-    (and_i (sound_intercept l.intercept) (sound_held l.phase l.held)
-    (subst⁻¹ (λ (w : Values). T (sound_intercept w.intercept)) a.same (le→leb (nat_abs v.intercept) 1000 a.good.small))
-    (and_i (phase_exists l.phase) (held_in (phase_word l.phase) l.held) a.known
-    (subst⁻¹ (λ (w : Values). T (held_in w.phase l.held)) a.same
-    (held_sound v.phase l.held v.past (held_is n d l v a) a.good.fits))))
-    (subst⁻¹ (λ (w : Values). T (days_fall d w.past)) a.same (falls_take 4 d v.past a.good.falls)))
-    (subst⁻¹ (λ (w : Values). T (all (sound_set n) w.past)) a.same (all_take (sound_set n) 4 v.past a.good.sets))
+    let small : sound_intercept v.intercept ≡ true = le-leb (nat_abs v.intercept) 1000 a.good.small in
+    let known = is_true _ a.known in
+    let held = is_true _ (held_sound v.phase l.held v.past (held_is n d l v a) a.good.fits) in
+    let falls = is_true _ (falls_take 4 d v.past a.good.falls) in
+    let sets = is_true _ (all_take (sound_set n) 4 v.past a.good.sets) in
+    subst⁻¹ (λ (w : Values). T (sound_intercept w.intercept && (phase_exists l.phase && held_in w.phase l.held) && days_fall d w.past && all (sound_set n) w.past)) a.same
+    (passes _ (grind arith))
 
 -- ---- a fresh line
 

@@ -1,7 +1,6 @@
 -- The theorem about every list of calls (`Demand3`), and the laws on the way to it.
 pub mod Checks
 pub mod RowFacts
-pub mod Magnitudes
 pub mod SheetBounds
 pub mod Phases
 pub mod NewestFour

@@ -18,7 +18,7 @@ use Rattle.station_rules.specs.declared.PastSet.{PastSet}
 use Rattle.station_rules.specs.declared.Scan.{Scan}
 use Rattle.station_rules.specs.declared.Asked.{Asked}
 use Rattle.station_rules.specs.declared.Basis.{Basis}
-use Rattle.whole.proofs.Tests.{and_l, and_r, and_i}
+use lib.Ieee.Fits.{and_l, and_r, and_i}
 use Rattle.station_rules.specs.declared.Test.{Test}
 use Rattle.station_rules.specs.declared.Verdict.TheVariants.{Shut}
 use Rattle.station_rules.specs.declared.Set.{Set}

@@ -7,8 +7,9 @@ use Prim.Native.Nat.{ℕ, suc, ◌*◌}
 use native.Mathlib.Omega.{arith}
 use lib.Dec.{eqb}
 use lib.ListN.{length}
-use lib.IntN.{ℤ, pos, ◌+ℤ◌, ◌-ℤ◌, +ℤ_assoc, +ℤ_comm, +ℤ_idl}
+use lib.IntN.{ℤ, pos, ◌+ℤ◌, ◌-ℤ◌, +ℤ_idl}
 use lib.Signed.{lt_z}
+use Rattle.std.proofs.lemmas.Int.{ints}
 use Rattle.whole.specs.Lists.{any, total, larger_of, smaller_of, largest, smallest}
 use Rattle.whole.proofs.ListLaws.{any_map, larger_comm, larger_swaps, smaller_comm, smaller_swaps}
 use Rattle.station_rules.specs.Lists.{keep}
@@ -38,10 +39,7 @@ module _ {A X B : Type 0} (weight : A → X) (add : X → B → B) (swaps : (x y
   fold_order (Permᴰ.trans d e) = fold_order d ∙ fold_order e
 
 or_swaps : (x y b : Bool) → (x || (y || b)) ≡ (y || (x || b))
-or_swaps true true b = refl
-or_swaps true false b = refl
-or_swaps false true b = refl
-or_swaps false false b = refl
+or_swaps x y b = grind arith
 
 module _ {A : Type 0} where
   any_order : (p : A → Bool) {l k : List A} → Permᴰ l k → any p l ≡ any p k
@@ -71,7 +69,7 @@ module _ {A : Type 0} where
       fold_order (λ (a : A). cond (p a) (f a) (pos 0)) ◌+ℤ◌ swaps (λ l. total (map f (keep p l))) (λ a l. cons (p a) a l) d
     where
       swaps : (x y z : ℤ) → x +ℤ (y +ℤ z) ≡ y +ℤ (x +ℤ z)
-      swaps x y z = sym (+ℤ_assoc x y z) ∙ ap (λ (w : ℤ). w +ℤ z) (+ℤ_comm x y) ∙ +ℤ_assoc y x z
+      swaps x y z = omega (arith, ints)
 
       cons : (t : Bool) (a : A) (l : List A) → total (map f (cond t (a ∷ keep p l) (keep p l))) ≡ cond t (f a) (pos 0) +ℤ total (map f (keep p l))
       cons true a l = refl

@@ -1,13 +1,16 @@
 -- What a verdict says: a set that met has N above 0, and the intercept stays in −1000..1000.
 use mathlib.Core.Path.{◌≡◌, refl, sym, ◌∙◌, ap}
-use mathlib.Core.Bool.{Bool, true, false, not, ◌&&◌, ◌||◌, cond, true≢false}
+use mathlib.Core.Bool.{Bool, true, false, not, ◌&&◌, ◌||◌, cond}
 use mathlib.Core.List.{List, [], ◌∷◌}
 use Rattle.std.specs.Prelude.{Option, None, Some}
-use Prim.Native.Nat.{ℕ, zero, suc, ◌≤◌}
+use Prim.Native.Nat.{ℕ, ◌≤◌}
 use native.Mathlib.Omega.{arith}
 use lib.Dec.{eqb, ltb}
 use lib.IntN.{ℤ, neg_ℤ, nat_abs, ◌+ℤ◌, ◌-ℤ◌, +ℤ_idr}
-use borrow.Author.Tests.{leb-true, lt-ltb, ne_eqb}
+use borrow.Author.Tests.{leb-true}
+use Rattle.std.proofs.lemmas.Bool.{cond_both}
+use Rattle.std.proofs.lemmas.Bool.Decides.{nat_tests}
+use Rattle.std.proofs.lemmas.Int.{ints}
 use Rattle.whole.specs.Lists.{any}
 use Rattle.station_rules.specs.Lines.{Values, change_of, is_met, judged, exceeded, sound_intercept, rounded_average, first_exceeded, tests_due, verdict_of, met_every}
 use Rattle.station_rules.specs.Laws.{MetIsMet}
@@ -18,12 +21,10 @@ use Rattle.station_rules.specs.declared.Set.{Set}
 use Rattle.station_rules.specs.declared.Limits.{Limits}
 
 adjust_met : (b : Bool) (change : ℤ) → is_met (cond b (Adjusted change) Shut) ≡ false
-adjust_met true change = refl
-adjust_met false change = refl
+adjust_met b change = grind arith
 
 cond_met : (b : Bool) (w : Verdict) → is_met (cond b Shut w) ≡ true → b ≡ false
-cond_met true w h = absurd (true≢false (sym h))
-cond_met false w h = refl
+cond_met b w h = grind arith
 
 adjust_small : (b : Bool) (i average : ℤ) → sound_intercept (i -ℤ average) ≡ b → nat_abs i ≤ 1000
     → nat_abs (i +ℤ change_of (cond b (Adjusted (neg_ℤ average)) Shut)) ≤ 1000
@@ -35,8 +36,7 @@ judged_small i None h = rw (+ℤ_idr i) h
 judged_small i (Some t) h = adjust_small (sound_intercept (i -ℤ rounded_average t)) i (rounded_average t) refl h
 
 cond_small : (b : Bool) (i : ℤ) (w : Verdict) → nat_abs i ≤ 1000 → nat_abs (i +ℤ change_of w) ≤ 1000 → nat_abs (i +ℤ change_of (cond b Shut w)) ≤ 1000
-cond_small true i w h k = rw (+ℤ_idr i) h
-cond_small false i w h k = k
+cond_small b i w h k = cond_both b Shut w (λ x. nat_abs (i +ℤ change_of x) ≤ 1000) (λ e. omega (arith, ints)) (λ e. k)
 
 -- no test is exceeded where the first exceeded is none
 none_exceeded : (i : ℤ) (ts : List Test) → is_met (judged i (first_exceeded ts)) ≡ not (any exceeded ts)
@@ -49,8 +49,7 @@ none_exceeded i (t ∷ ts) = go (exceeded t) (none_exceeded i ts)
     go false ih = ih
 
 positive : (n : ℕ) → ltb 0 n ≡ not (eqb n 0)
-positive zero = refl
-positive (suc n) = lt-ltb 0 (suc n) (omega arith) ∙ sym (ap not (ne_eqb (suc n) 0 (λ h. omega arith)))
+positive n = grind (arith, nat_tests)
 
 shut_met : (n : ℕ) (w : Verdict) (x : Bool) → is_met w ≡ not x → is_met (cond (eqb n 0) Shut w) ≡ (ltb 0 n && not x)
 shut_met n w x e = go (eqb n 0) ∙ ap (λ (b : Bool). b && not x) (sym (positive n))

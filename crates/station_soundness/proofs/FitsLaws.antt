@@ -1,5 +1,5 @@
 -- What a sound station's line gives, so that nothing wraps.
-use mathlib.Core.Path.{◌≡◌, ap, ◌∙◌, subst}
+use mathlib.Core.Path.{◌≡◌, ap, subst}
 use mathlib.Core.Bool.{Bool, true, ◌&&◌}
 use mathlib.Core.List.{List, [], ◌∷◌}
 use Prim.Native.Nat.{ℕ, zero, suc, ◌*◌, ◌%◌, ◌≤◌, ◌<◌}
@@ -17,8 +17,8 @@ use Rattle.station_rules.specs.Lines.{sound_intercept}
 use Rattle.station_rules.specs.Held.{no_set, fresh_line}
 use Rattle.station_rules.specs.Soundness.{days_fall, sound_set, sound_held, sound_line, sound}
 use Rattle.station_rules.specs.Stations.{line_of}
-use Rattle.station_rules.specs.Judging.{day_check}
 use Rattle.whole.proofs.Elements.{at_all}
+use Rattle.station_rules.proofs.NewestFour.{falls_later}
 use Rattle.station_rules.proofs.RowFacts.{row_facts}
 use Rattle.station_rules.specs.declared.PastSet.{PastSet}
 use Rattle.station_rules.specs.declared.Line.{Line}
@@ -26,10 +26,6 @@ use Rattle.station_rules.specs.Held.{Station}
 use Rattle.line_past.specs.Ranges.{SetsOf}
 use Rattle.line.specs.Ranges.{LineFits}
 use Rattle.station_soundness.proofs.SoundLaws.{held_most}
-
--- number 2, by the day that was read
-pub day_read : {b : Bool} {d e : ℕ} (day : ℕ) → b ≡ (day_check d day).applies → d ≡ e → b ≡ (day_check e day).applies
-day_read day h e = h ∙ ap (λ (x : ℕ). (day_check x day).applies) e
 
 pub size_within : (m : ℕ) (z : ℤ) → nat_abs z ≤ m → Within m m z
 size_within m (pos n) h = record { over = omega (arith, ints); under = omega (arith, ints) }
@@ -84,8 +80,7 @@ line_sound n day l h d t =
               day = omega (arith, fall_get day past j falls, ap (λ (p : PastSet). p.day) e);
             };
       };
-      last = day;
-      falls = falls;
+      falls = falls_later day 99999 past d falls;
     }
 
 fresh_sound : (n day : ℕ) → T (sound_line n day fresh_line)

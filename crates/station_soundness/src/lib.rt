@@ -18,12 +18,12 @@ use whole::held::{SET_PLACES, SETS};
 
 // N is even from 2 to twice the samples n, and |S| is at most 11000 times N.
 fn sound_set(n: u32, p: PastSet) -> bool
-    requires { n ≤ 6 }
     ensures { result ≡ sound_set n p }
 {
-    p.count % 2 == 0
-        && (2..=2 * n).contains(&p.count)
-        && p.sum.unsigned_abs() <= SUM_BOUND * p.count
+    let count = u64::from(p.count);
+    count % 2 == 0
+        && (2..=2 * u64::from(n)).contains(&count)
+        && u64::from(p.sum.unsigned_abs()) <= u64::from(SUM_BOUND) * count
 }
 
 // An open line has one to four past sets and any other none; a phase that there isn't has no right number of them. The phase is a code, as the places hold it for C.
@@ -39,15 +39,14 @@ fn sound_held(phase: u32, held: u32) -> bool
 
 // A set whose day does not pass that of the set before it, and that is sound.
 fn next_set(n: u32, last: u32, p: PastSet) -> bool
-    requires { n ≤ 6 }
     ensures { result ≡ (leb p.day last && sound_set n p) }
 {
     p.day <= last && sound_set(n, p)
 }
 
-// The held sets of the line in these places, from newest to oldest.
+// The held sets of the line in these places, from newest to oldest: a loop, since each day is held against that of the set before it, and the first against the station's.
 fn sound_past(n: u32, day: u32, held: usize, part: &[i32; LINE_PLACES]) -> bool
-    requires { (n ≤ 6) × (held ≤ 4) }
+    requires { held ≤ 4 }
     ensures { result ≡ sound_past n day (take held (line_in part.now).past) }
 {
     let (sets, _) = part[FIRST_SET..].as_chunks::<SET_PLACES>();
@@ -64,20 +63,12 @@ fn sound_past(n: u32, day: u32, held: usize, part: &[i32; LINE_PLACES]) -> bool
 
 #[tactic(auto, using(whole::proofs::PlaceLaws::natural_read), unfolding(station_rules::specs::Soundness::sound_line, station_rules::specs::Places::line_in))]
 fn sound_line(n: u32, day: u32, part: &[i32; LINE_PLACES]) -> bool
-    requires { n ≤ 6 }
     ensures { result ≡ sound_line n day (line_in part.now) }
 {
     let held = part[HELD_PLACE].cast_unsigned();
     part[INTERCEPT_PLACE].unsigned_abs() <= INTERCEPT_BOUND
         && sound_held(part[PHASE_PLACE].cast_unsigned(), held)
         && sound_past(n, day, held as usize, part)
-}
-
-fn sound_lines(n: u32, day: u32, lines: &[[i32; LINE_PLACES]]) -> bool
-    requires { n ≤ 6 }
-    ensures { result ≡ all (λ part. sound_line n day (line_in part)) lines.now }
-{
-    lines.iter().all(|part| sound_line(n, day, part))
 }
 
 // Number 0: the places are 47, the row exists, the day is 0..99999, and the row's lines are sound.
@@ -95,12 +86,11 @@ pub fn is_sound(state: &[i32]) -> bool
     if LAST_DAY < day {
         return false;
     }
+    let n = row_table::sample_count(row);
     let (lines, _) = state[FIRST_LINE..].as_chunks::<LINE_PLACES>();
-    sound_lines(
-        row_table::sample_count(row),
-        day,
-        &lines[..row_table::line_count(row)],
-    )
+    lines[..row_table::line_count(row)]
+        .iter()
+        .all(|part| sound_line(n, day, part))
 }
 
 // Number 2: the day is below that of the last accepted call or above 99999.

@@ -17,7 +17,6 @@ use Rattle.std.specs.Prelude.{Option, Some, None}
 use Rattle.chart_rules.specs.declared.ValueLine.{ValueLine}
 use Rattle.text_gather.specs.declared.Progress.{Progress}
 use Rattle.chart_rules.proofs.Output.{chart_append, chart_short}
-use Rattle.chart_rules.proofs.Rulings.{fine_sample}
 
 -- ---- what is left to be written, of these lines: written from here, it gives the whole
 pub record Left (text old : List ℕ) (start : ℕ) (out : List ℕ) (p : Progress) (ls : List (Option ValueLine)) : Type 0 where
@@ -26,7 +25,6 @@ pub record Left (text old : List ℕ) (start : ℕ) (out : List ℕ) (p : Progre
   pub room : p.end + 40 * length (sets_of (seen p.set) ls) ≤ length old
   pub long : length out ≡ length old
   pub good : GoodLines p.set.week p.set.count ls
-  pub few : p.set.count ≤ 5
 
 -- the same, where the lines begin with this one
 pub left_next : {text old : List ℕ} {start : ℕ} {out : List ℕ} {p : Progress} {ls more : List (Option ValueLine)} {x y : Option ValueLine} → Left text old start out p ls
@@ -63,7 +61,6 @@ module _ {text old : List ℕ} {start : ℕ} {out : List ℕ} {p : Progress} (v 
         room = omega (arith, put.behind, chart_short c done, ap length more_is, ap length sets_are, length-append done more, l.room);
         long = put_length put ∙ l.long;
         good = rw (s.week, s.count) l.good.1;
-        few = omega (arith, s.count, fine_sample _ _ v l.good.0);
       }
 
 -- the last set
@@ -88,7 +85,6 @@ left_start text old start p b g h =
       room = omega (arith, b.end, ap length sets_is);
       long = refl;
       good = rw (b.set.count, b.set.week) g;
-      few = omega (arith, b.set.count);
     }
 
 -- no line of a good text is bad

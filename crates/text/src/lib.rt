@@ -1,4 +1,5 @@
 // A chart text judged and charted whole.
+// Text and buffer stay two parameters: the exported call is given both, from C.
 
 #![tactic(auto)]
 
@@ -36,10 +37,7 @@ pub fn chart_text(text: &[u8], out: &mut [u8]) -> Result<usize, RefusedText>
 {
     let sets = text_judge::judge(text)?;
     if out.len() / LINE_ROOM <= sets {
-        return Err(RefusedText {
-            refusal: TextRefusal::ShortBuffer,
-            line: 0,
-        });
+        return Err(TextRefusal::ShortBuffer.at_line(0));
     }
     let start = decimal::put_bytes(out, 0, b"week n sum range al tl run ral rtl\n");
     Ok(write_sets(text, out, start))

@@ -1,7 +1,7 @@
 -- What the code's set under way stands for.
 use mathlib.Core.Path.{◌≡◌, ap, ◌∙◌}
 use mathlib.Core.List.{List, [], ◌∷◌, ◌++◌, append_assoc}
-use Prim.Native.Nat.{ℕ, suc, ◌+◌, ◌*◌, ◌≤◌, ◌<◌}
+use Prim.Native.Nat.{ℕ, suc, ◌+◌, ◌*◌, ◌<◌}
 use native.Mathlib.Omega.{arith}
 use lib.IntN.{ℤ}
 use lib.ListN.{length, take, set, length-take, length-set}
@@ -25,9 +25,6 @@ pub seen_none : (s : TextSet) → s.count ≡ 0 → finished (seen s) ≡ []
 unfolding finished seen
 seen_none s e = rw e
 
-seen_long : (s : TextSet) → (s.count ≡ 0 → ⊥) → s.count ≤ 5 → length s.numbers ≡ 10 → 0 < length (seen s).numbers
+pub seen_some : (s : TextSet) → (s.count ≡ 0 → ⊥) → length s.numbers ≡ 10 → finished (seen s) ≡ seen s ∷ []
 unfolding seen
-seen_long s ne h ten = simp length-take (omega arith)
-
-pub seen_some : (s : TextSet) → (s.count ≡ 0 → ⊥) → s.count ≤ 5 → length s.numbers ≡ 10 → finished (seen s) ≡ seen s ∷ []
-seen_some s ne h ten = finished_some (seen s) (seen_long s ne h ten)
+seen_some s ne ten = finished_some (seen s) (simp length-take (omega (arith, s.few)))

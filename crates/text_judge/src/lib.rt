@@ -13,22 +13,17 @@ fn judge_lines(text: &[u8]) -> Result<usize, RefusedText>
     requires { length text.now ≤ 65536 }
     ensures { result ≡ verdict (first_ruling (lines_checks 0 0 2 (value_lines text.now))) (starts (value_lines text.now)) }
 {
-    let mut line: u32 = FIRST_LINE;
     let mut week: u32 = 0;
     let mut sample: u32 = 0;
     let mut sets: usize = 0;
-    for read in text_lines::value_lines(text) {
+    for (read, line) in text_lines::value_lines(text).zip(FIRST_LINE..) {
         let Some(v) = read else {
-            return Err(RefusedText {
-                refusal: TextRefusal::BadLine,
-                line,
-            });
+            return Err(TextRefusal::BadLine.at_line(line));
         };
         text_ruling::rule(week, sample, line, v)?;
         sets += usize::from(v.sample == 1);
         week = v.week;
         sample = v.sample;
-        line += 1;
     }
     Ok(sets)
 }
@@ -39,16 +34,10 @@ pub fn judge(text: &[u8]) -> Result<usize, RefusedText>
     ensures { result ≡ judged text.now }
 {
     if MOST_TEXT < text.len() {
-        return Err(RefusedText {
-            refusal: TextRefusal::TooLong,
-            line: 0,
-        });
+        return Err(TextRefusal::TooLong.at_line(0));
     }
     if !text_lines::has_names(text) {
-        return Err(RefusedText {
-            refusal: TextRefusal::BadNames,
-            line: 1,
-        });
+        return Err(TextRefusal::BadNames.at_line(1));
     }
     judge_lines(text)
 }

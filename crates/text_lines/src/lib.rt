@@ -1,4 +1,5 @@
 // Reads the value lines of the chart text: four decimals, single spaces, a line feed.
+// Text and position stay two parameters, for the reason that text_numbers gives.
 
 #![tactic(auto)]
 

@@ -1,4 +1,5 @@
 // Decimal numbers of a chart text, read: a lone 0, or up to five digits without a leading zero.
+// Text and position stay two parameters, as in the rules: they count positions in the whole text, which the rest as a slice would lose, and a cursor's methods had to promise besides that it keeps its text.
 
 #![tactic(auto)]
 

@@ -1,4 +1,4 @@
-// What the chart program prints.
+// What the chart program prints. Text and buffer stay two parameters, as in text.
 
 #![tactic(auto)]
 
@@ -9,6 +9,7 @@ ghost use Rattle.chart_rules.specs.Printing.{refusal_bytes, printed_of};
 use chart_rules::LINE_ROOM;
 
 // `refused`, the number and the text line, from the buffer's start on: the length.
+#[tactic(auto, using(decimal::proofs::Show::width_10))]
 fn put_refusal(out: &mut [u8], number: u32, line: u32) -> usize
     requires { 40 ≤ length out.old }
     ensures { (Put out.old 0 (refusal_bytes number line) out.new result) × (result ≤ 40) }
@@ -21,6 +22,7 @@ fn put_refusal(out: &mut [u8], number: u32, line: u32) -> usize
 
 // What the program prints, from the buffer's start on: the text's output, or the line of its refusal. It gives the length.
 // A buffer of fewer than 40 bytes gets nothing.
+#[tactic(auto, using(chart_rules::proofs::Printing::printed_short))]
 pub fn print_text(text: &[u8], out: &mut [u8]) -> usize
     ensures printed { printed_of text.now out.old ≡ record { length = result; buffer = out.new } }
     ensures fits { result ≤ length out.old }

@@ -34,21 +34,21 @@ fn bad_pair(v: ValueLine) -> bool
 }
 
 // Whether a line is fine after the line before it, or the first refusal that applies.
-// Of the line before it count its week and sample number, both 0 where there is none: two numbers, which a struct makes no plainer.
+// Of the line before it count its week and sample number alone, both 0 where there is none, so the rules take two numbers: a struct would be taken apart for them again.
 #[tactic(auto, unfolding(chart_rules::specs::Judging::ruling))]
 pub fn rule(week: u32, sample: u32, line: u32, v: ValueLine) -> Result<(), RefusedText>
     requires { sample ≤ 5 }
     ensures { result ≡ ruling week sample line v }
 {
     let start = is_start(week, sample, v);
-    let refusal = if !is_next(week, sample, v) && !start {
-        TextRefusal::BadSample
-    } else if start && chart_bounds::bad_week(week, v.week) {
-        TextRefusal::BadWeek
-    } else if bad_pair(v) {
-        TextRefusal::BadResult
-    } else {
-        return Ok(());
-    };
-    Err(RefusedText { refusal, line })
+    if !is_next(week, sample, v) && !start {
+        return Err(TextRefusal::BadSample.at_line(line));
+    }
+    if start && chart_bounds::bad_week(week, v.week) {
+        return Err(TextRefusal::BadWeek.at_line(line));
+    }
+    if bad_pair(v) {
+        return Err(TextRefusal::BadResult.at_line(line));
+    }
+    Ok(())
 }

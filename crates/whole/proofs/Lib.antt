@@ -1,12 +1,7 @@
 pub mod Tests
-pub mod Parts
-pub mod PartLaws
-pub mod Linear
-pub mod Fold
 pub mod ListLaws
 pub mod Read
 pub mod Elements
 pub mod Spelled
 pub mod RoundLaws
-pub mod BoundLaws
 pub mod PlaceLaws

@@ -1,5 +1,5 @@
 // Four sets of three numbers each in a part of 12 places, newest first: a line's past sets, a chart's held sets.
-ghost use Rattle.std.specs.Prelude.{◌≡◌, ◌++◌, ◌≤◌, suc, min, pos, length, take, replicate};
+ghost use Rattle.std.specs.Prelude.{◌≡◌, ◌++◌, suc, min, pos, length, take, replicate};
 
 // The sets that are held at most.
 pub const SETS: u32 = 4;
@@ -29,8 +29,7 @@ pub fn empty(part: &mut [i32])
 
 // One more is held, and four at most.
 pub fn one_more(held: u32) -> u32
-    requires { held ≤ 4 }
     ensures { result ≡ min 4 (suc held) }
 {
-    (held + 1).min(SETS)
+    held.min(SETS - 1) + 1
 }

@@ -27,23 +27,18 @@ returns-in_err-judge_call-clause-put c =
 pub set_of-s-requires : goal.set_of-s-requires
 set_of-s-requires c = let r = ready c.chart_at-chart.ensures c.in_ok-judge_call.ensures in (r.size, r.results)
 
-pub values_of-values-requires : goal.values_of-values-requires
-values_of-values-requires c =
-    let r = ready c.chart_at-chart.ensures c.in_ok-judge_call.ensures in
-    (rw c.set_of-s.ensures r.fits, rw c.chart_at-chart.ensures r.past)
-
 pub write_values-end-requires : goal.write_values-end-requires
 write_values-end-requires c =
     let r = ready c.chart_at-chart.ensures c.in_ok-judge_call.ensures in
-    (omega (arith, r.place), rw c.values_of-values.ensures (values_small _ _ _ r.time (rw c.set_of-s.ensures r.fits)))
+    (omega (arith, r.place), rw c.values_of-values.ensures (values_small _ _ _ r.time (rw c.set_of-s.ensures r.made)))
 
 pub put_next-requires-clause-state_len : goal.put_next-requires-clause-state_len
 put_next-requires-clause-state_len c = let r = ready c.chart_at-chart.ensures c.in_ok-judge_call.ensures in (r.full, r.held)
 
-pub put_next-requires-clause-week_bound : goal.put_next-requires-clause-week_bound
-put_next-requires-clause-week_bound c =
+pub put_next-requires-clause-fits : goal.put_next-requires-clause-fits
+put_next-requires-clause-fits c =
     let r = ready c.chart_at-chart.ensures c.in_ok-judge_call.ensures in
-    (r.time, rw c.set_of-s.ensures r.fits)
+    rw c.set_of-s.ensures (omega (arith, r.time, r.made))
 
 pub returns-clause-value : goal.returns-clause-value
 unfolding result_of decided accepted bytes_of

@@ -1,13 +1,16 @@
-use mathlib.Core.Path.{sym, ap, ◌∙◌}
-use Prim.Native.Nat.{ℕ, ◌*◌}
-use lib.Dec.{ltb}
-use lib.IntN.{nat_abs}
-use Rattle.chart_rules.specs.Run.{run_by}
-use Rattle.chart_run.proofs.Averages.{four_sum}
+use Rattle.std.proofs.Common.{◌≡◌, sym, map, arith}
+use Rattle.std.specs.Prelude.{nat_abs}
+use Rattle.std.proofs.lemmas.Int.{ints}
+use Rattle.whole.specs.Lists.{total}
+use Rattle.whole.proofs.Spelled.{elements, spelled}
+use Rattle.chart_rules.specs.Sets.{blank_set}
+use Rattle.chart_rules.specs.Run.{sixtieths, run_by}
 use Rattle.chart_run.proofs.run_by.Goals as goal
 
+-- the four sets spelled out, their sum is the code's
 pub returns-then-one_side : goal.returns-then-one_side
-unfolding run_by
+unfolding run_by elements
 returns-then-one_side c =
-    let sum = four_sum c.args.four.now _ c.told-four c.sixtieths.ensures c.sixtieths-2.ensures c.sixtieths-3.ensures c.sixtieths-4.ensures in
-    rw (sym c.one_side.ensures, c.if-one_side.true) (ap (λ (n : ℕ). ltb (240 * c.args.limit) n) (c.unsigned_abs.ensures.value ∙ ap nat_abs sum))
+    let four = c.args.four.now in
+    let sum : c.unsigned_abs.result ≡ nat_abs (total (map sixtieths four)) = rw (← spelled blank_set four 4 c.told-four) (omega (arith, ints)) in
+    rw (sym c.one_side.ensures, c.if-one_side.true, c.from.ensures, sum)

@@ -10,15 +10,15 @@ use Rattle.line.proofs.enter_sheet.Goals as goal
 
 pub returns-in-Met : goal.returns-in-Met
 unfolding sheet_line
-returns-in-Met c = c.«open».ensures ∙ sym (ap (sheet_line c.args.part.now c.args.p) c.in-Met.is)
+returns-in-Met c = c.«open».ensures ∙ sym (ap (sheet_line c.args.part.now c.args.p.set) c.in-Met.is)
 
 pub returns-in-Adjusted : goal.returns-in-Adjusted
 unfolding sheet_line
 returns-in-Adjusted c =
     let w = c.args.part.now in
     let f : SFits w32 c.in-Adjusted.change = search rules in
-    c.close.ensures ∙ ap (closed_with w (pos 2)) (to_z-of_z w32 c.in-Adjusted.change f) ∙ sym (ap (sheet_line w c.args.p) c.in-Adjusted.is)
+    c.close.ensures ∙ ap (closed_with w (pos 2)) (to_z-of_z w32 c.in-Adjusted.change f) ∙ sym (ap (sheet_line w c.args.p.set) c.in-Adjusted.is)
 
 pub returns-in-Shut : goal.returns-in-Shut
 unfolding sheet_line
-returns-in-Shut c = c.close-in-Shut.ensures ∙ sym (ap (sheet_line c.args.part.now c.args.p) c.in-Shut.is)
+returns-in-Shut c = c.close-in-Shut.ensures ∙ sym (ap (sheet_line c.args.part.now c.args.p.set) c.in-Shut.is)

@@ -68,7 +68,7 @@ meet-requires-4 c =
     let h = c.requires.held in
     let two = join_fits _ h 0 (omega arith) 1 c.requires.one c.plus-two.ensures in
     let four = join_fits _ h 2 (omega arith) 3 (join_fits _ h 1 (omega arith) 2 two c.plus-three.ensures) c.plus.ensures in
-    (c.requires.limited.five, join_fits _ h 3 (omega arith) 4 four c.plus-2.ensures)
+    join_fits _ h 3 (omega arith) 4 four c.plus-2.ensures
 
 pub returns : goal.returns
 returns c =

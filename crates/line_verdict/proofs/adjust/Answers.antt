@@ -9,7 +9,8 @@ use Rattle.line_verdict.proofs.adjust.Goals as goal
 
 pub returns-then-unsigned_abs-le-INTERCEPT_BOUND : goal.returns-then-unsigned_abs-le-INTERCEPT_BOUND
 returns-then-unsigned_abs-le-INTERCEPT_BOUND c =
-    let i = c.args.intercept in
+    let i = c.args.l.line.intercept in
+    let small = c.args.l.fits.small in
     let a = c.args.average in
     let back : to_z w32 (of_z w32 (pos 0 -ℤ to_z w32 (of_z w32 a))) ≡ neg_ℤ a = omega (arith, ints) in
     let next : to_z w32 (of_z w32 (to_z w32 (of_z w32 i) -ℤ to_z w32 (of_z w32 a))) ≡ i -ℤ a = omega (arith, ints) in

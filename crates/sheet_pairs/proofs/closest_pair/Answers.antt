@@ -9,5 +9,5 @@ use Rattle.sheet_pairs.proofs.closest_pair.Goals as goal
 pub returns : goal.returns
 unfolding closest_pair
 returns c =
-    let e : pair_of c.closer-2.result ≡ closest_pair c.args.s = grind (arith, to_z-of_z) in
-    (e, subst⁻¹ In e (closest_in c.args.s c.requires))
+    let e : pair_of c.closer-2.result ≡ closest_pair c.args.s.sample = grind (arith, to_z-of_z) in
+    (e, subst⁻¹ In e (closest_in c.args.s.sample c.args.s.fine))

@@ -1,49 +1,24 @@
-use mathlib.Core.Path.{ap, ◌∙◌}
-use native.Mathlib.Omega.{arith}
-use Rattle.std.specs.Slice.Iter.{chunks_exact_rest, chunks_exact_size}
 use Rattle.std.proofs.lemmas.Result.{err_from_is_err_and}
 use Rattle.station_rules.specs.Sheets.{wrong_number}
 use Rattle.station_refusals.specs.declared.Refusal.TheVariants.{SheetNumber}
-use Rattle.sheet_numbers.proofs.SheetLaws.{passed_stop, passed_end}
-use Rattle.sheet_pass.specs.Passes.{more, joined}
-use Rattle.sheet_pass.proofs.PassLaws.{passing_start, passing_next}
+use Rattle.sheet_numbers.proofs.SheetLaws.{going_end}
+use Rattle.sheet_pass.specs.Passes.{Bounded, more}
+use Rattle.sheet_pass.proofs.PassLaws.{passing_start, passing_stop}
 use Rattle.sheet_pass.proofs.pass.Goals as goal
 
-pub loop-part-init : goal.loop-part-init
-loop-part-init c =
+pub loop-s-init : goal.loop-s-init
+loop-s-init c =
     let t = c.args.terms in
-    let same = c.into_iter-part-iterator.ensures.into_iter_gives in
-    let items = c.chunks_exact-part-items.ensures in
-    record {
-      six = ap chunks_exact_size same ∙ items.size;
-      passing = passing_start t.limits t.intercept t.fair c.args.numbers.now (ap chunks_exact_rest same ∙ items.rest) c.requires.0 c.requires.1;
-    }
-
-pub loop-part-preserved : goal.loop-part-preserved
-loop-part-preserved c =
-    let t = c.args.terms in
-    let l = c.loop-part in
-    let step = c.in-Some.ensures.steps in
-    record {
-      six = step.0 ∙ l.invariant.six;
-      passing = passing_next t.limits t.intercept t.fair c.args.numbers.now _ c.in-Some.part.now _ step.1.0 (step.1.1 ∙ l.invariant.six) l.t l.invariant.passing
-          (c.in_ok-t.ensures ∙ ap (joined t.limits t.intercept l.t) c.sample_of.ensures);
-    }
+    let start = passing_start t.limits t.intercept t.small c.args.numbers.now c.requires.0 c.requires.1 in
+    rw (c.into_iter-s-iterator.ensures.into_iter_gives, c.samples-s-items.ensures) start
 
 pub returns-in_err-t-clause-is : goal.returns-in_err-t-clause-is
-unfolding joined
 returns-in_err-t-clause-is c =
     let t = c.args.terms in
-    let l = c.loop-part in
-    let step = c.in-Some.ensures.steps in
-    let stop = passed_stop wrong_number SheetNumber (more t.limits t.intercept) _ c.in-Some.part.now _ step.1.0 (step.1.1 ∙ l.invariant.six) l.t
-    (c.in_err-t.ensures ∙ ap (joined t.limits t.intercept l.t) c.sample_of.ensures) in
     let p = err_from_is_err_and c.from_residual.result c.from_residual.ensures.1 in
-    rw (p.1, p.2) (stop ∙ l.invariant.passing.whole)
+    rw (p.1, p.2) (passing_stop t.limits t.intercept t.small _ c.loop-s.invariant _ c.in-Some.ensures.steps c.in_err-t.ensures)
 
 pub returns-clause-is : goal.returns-clause-is
 returns-clause-is c =
     let t = c.args.terms in
-    let l = c.loop-part in
-    let short = c.in-None.ensures.steps.1.0 in
-    passed_end wrong_number SheetNumber (more t.limits t.intercept) _ l.t (omega (arith, l.invariant.six)) ∙ l.invariant.passing.whole
+    going_end wrong_number SheetNumber (more t.limits t.intercept) Bounded _ c.loop-s.invariant c.in-None.ensures.steps.0

@@ -1,11 +1,6 @@
-use Rattle.std.proofs.Common.{◌≡◌}
-use Rattle.std.specs.Slice.Iter.{chunks_exact_rest, chunks_exact_size}
+use Rattle.sheet_numbers.specs.Left.{samples_left}
 use Rattle.sheet_pass.proofs.PassLaws.{Passing}
 use Rattle.sheet_pass.proofs.pass.Given as goal
 
-abbrev pub invariant-loop-part : goal.invariant-loop-part
-invariant-loop-part l =
-    record {
-      six : chunks_exact_size l.part-iterator ≡ 6;
-      passing : Passing l.terms.limits l.terms.intercept l.terms.fair l.numbers (chunks_exact_rest l.part-iterator) l.t;
-    }
+abbrev pub invariant-loop-s : goal.invariant-loop-s
+invariant-loop-s l = Passing l.terms.limits l.terms.intercept l.terms.small l.numbers (samples_left l.s-iterator) l.t

@@ -1,21 +1,13 @@
 use mathlib.Core.Path.{subst⁻¹}
-use Prim.Native.Nat.{ℕ, ◌≤◌}
+use Prim.Native.Nat.{ℕ}
 use lib.IntN.{ℤ}
 use lib.ListN.{take, drop}
 use Rattle.whole.specs.Bounds.{Within}
 use Rattle.whole.specs.Places.{place}
 use Rattle.station_rules.specs.Lines.{change_of}
-use Rattle.station_rules.specs.Places.{line_in, line_start}
-use Rattle.line.specs.Ranges.{SetFits}
-use Rattle.station_places.proofs.LentLines.{fifteen, same_held, same_intercept}
+use Rattle.station_rules.specs.Places.{line_start}
+use Rattle.station_places.proofs.LentLines.{fifteen, same_intercept}
 use Rattle.station_places.proofs.enter_sheet.Goals as goal
-
-pub enter_sheet-requires-clause-part_bound : goal.enter_sheet-requires-clause-part_bound
-enter_sheet-requires-clause-part_bound c =
-    let w = c.args.state.now in
-    let line = c.args.line in
-    subst⁻¹ (λ (k : ℕ). ((line_in (take k (drop (line_start line) w))).held ≤ 4) × SetFits c.args.p) (fifteen (line_start line))
-    (subst⁻¹ (λ (n : ℕ). n ≤ 4) (same_held w line c.requires.state_len.1) c.requires.line_bound.0, c.requires.line_bound.1)
 
 pub enter_sheet-requires-clause-within : goal.enter_sheet-requires-clause-within
 enter_sheet-requires-clause-within c =

@@ -1,7 +1,10 @@
-use mathlib.Core.Path.{sym, ◌∙◌, ap}
+use mathlib.Core.Path.{◌≡◌, sym, ◌∙◌, ap}
 use native.Mathlib.Omega.{arith}
 use lib.ListN.{length, take, length-take}
+use borrow.Author.Rules.{rules}
 use borrow.Author.Tests.{ne_eqb}
+use Rattle.std.proofs.lemmas.Iterator.{YieldsList-from_slice}
+use Rattle.std.proofs.lemmas.Iterator.Search.{all_from_yields_List}
 use Rattle.whole.specs.Lists.{all}
 use Rattle.station_rules.specs.Rows.{row_exists, samples, line_count}
 use Rattle.station_rules.specs.Soundness.{sound_line}
@@ -25,25 +28,25 @@ returns-then-day-gt-LAST_DAY c =
     let late = c.if-day-gt-LAST_DAY.true in
     dayless (station_in c.args.state.now) (sym (c.if-not-row_exists.ensures ∙ ap row_exists c.row_of-row.ensures)) (omega arith)
 
-pub slice_bounds-sound_lines-end : goal.slice_bounds-sound_lines-end
-slice_bounds-sound_lines-end c =
+pub slice_bounds-iter-end : goal.slice_bounds-iter-end
+slice_bounds-iter-end c =
     let few = (row_facts c.row_of-row.result).three_lines in
     let n = c.line_count.ensures in
     let cut = c.as_chunks.ensures.front_len in
     omega (arith, length-take c.line_count.result c.as_chunks.result.0.now, c.if-state-ne-STATION_PLACES.false)
 
-pub sound_lines-requires : goal.sound_lines-requires
-sound_lines-requires c = let n = c.sample_count.ensures in omega (arith, (row_facts c.row_of-row.result).six_samples)
-
 pub returns : goal.returns
 returns c =
     let w = c.args.state.now in
-    let s = station_in w in
+    let n = c.sample_count-n in
+    let cut = c.as_chunks.result.0.now in
     let day = c.day_of-day.ensures in
     let in-time = c.if-day-gt-LAST_DAY.false in
     let row = c.row_of-row.ensures in
-    let lines = lines_cut w c.as_chunks.result.0.now c.if-state-ne-STATION_PLACES.false c.as_chunks.ensures.front in
-    c.sound_lines.ensures
-    ∙ all_map (sound_line c.sample_count.result c.day_of-day.result) line_in c.line_count.result c.as_chunks.result.0.now
-    ∙ (λ i. all (sound_line ((c.sample_count.ensures ∙ ap samples row) i) (day i)) (take ((c.line_count.ensures ∙ ap line_count row) i) (lines i)))
-    ∙ by_lines s (sym (c.if-not-row_exists.ensures ∙ ap row_exists row)) (omega arith)
+    let tested : c.all.result ≡ all (λ part. sound_line n.result c.day_of-day.result (line_in part)) (take c.line_count.result cut) =
+    all_from_yields_List (λ part. sound_line n.result c.day_of-day.result (line_in part)) _ _ c.all.result c.all.ensures.ran (YieldsList-from_slice (take c.line_count.result cut) c.iter.ensures.rest) (λ x b q k. search rules) in
+    let lines = lines_cut w cut c.if-state-ne-STATION_PLACES.false c.as_chunks.ensures.front in
+    tested
+    ∙ all_map (sound_line n.result c.day_of-day.result) line_in c.line_count.result cut
+    ∙ (λ i. all (sound_line ((n.ensures ∙ ap samples row) i) (day i)) (take ((c.line_count.ensures ∙ ap line_count row) i) (lines i)))
+    ∙ by_lines (station_in w) (sym (c.if-not-row_exists.ensures ∙ ap row_exists row)) (omega arith)

@@ -23,7 +23,7 @@ returns-then-out-sets c =
     let room = length c.args.out.now in
     let n = c.in_ok-sets.sets in
     let full : room / 40 ≤ n = c.if-out-sets.true in
-    text_refused c.args.text.now c.args.out.now _ (short_answer c.args.text.now room n (sym c.judge.ensures ∙ c.in_ok-sets.was) (omega arith))
+    rw c.at_line.ensures (text_refused c.args.text.now c.args.out.now _ (short_answer c.args.text.now room n (sym c.judge.ensures ∙ c.in_ok-sets.was) (omega arith)))
 
 pub write_sets-requires-clause-good_lines : goal.write_sets-requires-clause-good_lines
 write_sets-requires-clause-good_lines c =

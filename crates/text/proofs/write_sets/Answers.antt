@@ -16,10 +16,9 @@ pub take_line-requires-clause-fine_line : goal.take_line-requires-clause-fine_li
 take_line-requires-clause-fine_line c =
     left_fine _ _ (left_next c.loop-read.invariant c.in-Some.ensures.steps c.in-Some-read.is)
 
-pub take_line-requires-clause-count_bound : goal.take_line-requires-clause-count_bound
-take_line-requires-clause-count_bound c =
-    let l = left_next c.loop-read.invariant c.in-Some.ensures.steps c.in-Some-read.is in
-    (l.few, left_room _ _ l)
+pub take_line-requires-clause-room : goal.take_line-requires-clause-room
+take_line-requires-clause-room c =
+    left_room _ _ (left_next c.loop-read.invariant c.in-Some.ensures.steps c.in-Some-read.is)
 
 pub loop-read-preserved : goal.loop-read-preserved
 loop-read-preserved c =
@@ -28,8 +27,7 @@ loop-read-preserved c =
 
 pub flush-requires : goal.flush-requires
 flush-requires c =
-    let l = subst (Left _ _ _ _ _) c.in-None.ensures.steps.0 c.loop-read.invariant in
-    (l.few, left_last l)
+    left_last (subst (Left _ _ _ _ _) c.in-None.ensures.steps.0 c.loop-read.invariant)
 
 pub returns : goal.returns
 returns c = left_done (subst (Left _ _ _ _ _) c.in-None.ensures.steps.0 c.loop-read.invariant) _ _ c.flush.ensures.1

@@ -10,8 +10,8 @@ use Rattle.text_judge.proofs.judge_lines.Given as goal
 abbrev pub invariant-loop-read : goal.invariant-loop-read
 invariant-loop-read l =
     record {
-      few : l.line + length (lines_left l.read-iterator) ≤ 70000;
-      counted : l.sets ≤ l.line;
+      few : l.read-iterator.b.start + length (lines_left l.read-iterator.a) ≤ 70000;
+      counted : l.sets ≤ l.read-iterator.b.start;
       five : l.sample ≤ 5;
-      left : verdict_at l.week l.sample l.sets l.line (lines_left l.read-iterator) ≡ verdict (first_ruling (lines_checks 0 0 2 (value_lines l.text))) (starts (value_lines l.text));
+      left : verdict_at l.week l.sample l.sets l.read-iterator.b.start (lines_left l.read-iterator.a) ≡ verdict (first_ruling (lines_checks 0 0 2 (value_lines l.text))) (starts (value_lines l.text));
     }

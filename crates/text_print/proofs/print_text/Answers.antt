@@ -2,11 +2,8 @@
 use mathlib.Core.Path.{refl}
 use native.Mathlib.Omega.{arith}
 use Rattle.decimal.proofs.Put.{put_whole}
-use Rattle.chart_rules.proofs.Printing.{printed_short, printed_written, written_room, printed_refused}
+use Rattle.chart_rules.proofs.Printing.{printed_written, written_room, printed_refused}
 use Rattle.text_print.proofs.print_text.Goals as goal
-
-pub returns-then-out-lt-LINE_ROOM : goal.returns-then-out-lt-LINE_ROOM
-returns-then-out-lt-LINE_ROOM c = record { printed = printed_short _ _ c.if-out-lt-LINE_ROOM.true; fits = omega arith }
 
 pub returns-in-Ok : goal.returns-in-Ok
 returns-in-Ok c =

@@ -12,7 +12,7 @@ use Rattle.text_gather.proofs.Progress.take_line.Goals.{then-v-eq1, else-v-eq1}
 pub flush-requires : goal.flush-requires
 flush-requires c =
     let e = ap length (closed_start (seen c.args.self.now.set) c.args.v c.if-v-eq1.true) in
-    (c.requires.count_bound.0, omega (arith, c.requires.count_bound.1))
+    omega (arith, c.requires.room)
 
 pub join-requires : goal.join-requires
 join-requires c =
