@@ -61,7 +61,7 @@ pub(crate) fn answer<T: Told + Drop>(
     }
 }
 
-// The answer of a call that gives no values, told by what it did; an opening names its row before, and a repair its day.
+// The answer of a call that gives no values, told by what it did; an opening names its row before, by the number that it was asked for, and a repair its day.
 fn done(rt: &impl Print, a: Result<(), Refusal>, did: &str) -> io::Result<()> {
     match a {
         Ok(()) => println!(rt; ": {did}"),

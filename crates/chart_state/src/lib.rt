@@ -35,7 +35,7 @@ fn set_at(state: &[i32], at: usize) -> ChartSet
     }
 }
 
-// A chart that holds no set.
+// A chart that holds no set, of a row by its number, as the rules have it.
 fn fresh_chart(row: u32) -> Chart
     ensures { result ≡ fresh_chart row }
 {
