@@ -20,13 +20,15 @@ struct side {
     struct grain_answer (*chart_open)(struct grain_chart *, uint64_t);
     struct grain_charted (*chart_set)(struct grain_chart *, uint32_t, const int32_t *, size_t, uint8_t *, size_t);
     struct grain_date (*date_from_day)(uint32_t);
+    struct grain_day (*day_from_date)(uint32_t, uint32_t, uint32_t);
+    struct grain_day (*working_day)(uint32_t, uint32_t, const int32_t *, size_t);
 };
 
 static const struct side sides[2] = {
     {"core", grain_open, grain_sheet, grain_repair, grain_market, grain_chart_open, grain_chart_set,
-     grain_date_from_day},
+     grain_date_from_day, grain_day_from_date, grain_working_day},
     {"plain", plain_open, plain_sheet, plain_repair, plain_market, plain_chart_open, plain_chart_set,
-     plain_date_from_day},
+     plain_date_from_day, plain_day_from_date, plain_working_day},
 };
 
 /* A station with four sets on each of its lines, of days 1 to 4. */
@@ -126,12 +128,38 @@ static long date(const struct side *side, long count)
     return accepted;
 }
 
+/* Days of dates all over the calendar. */
+static long day(const struct side *side, long count)
+{
+    long accepted = 0;
+    for (long i = 0; i < count; i++) {
+        uint32_t year = (uint32_t)(2000 + i * 37 % 273);
+        accepted += side->day_from_date(year, (uint32_t)(1 + i % 12), (uint32_t)(1 + i % 28)).accepted;
+    }
+    return accepted;
+}
+
+/* Up to ten working days after days among sixty holidays, a month apart. */
+static long working_day(const struct side *side, long count)
+{
+    int32_t holidays[60];
+    for (int i = 0; i < 60; i++)
+        holidays[i] = 9000 + 30 * i;
+    long accepted = 0;
+    for (long i = 0; i < count; i++) {
+        uint32_t start = (uint32_t)(9000 + i * 7919 % 1800);
+        accepted += side->working_day(start, (uint32_t)(1 + i % 10), holidays, 60).accepted;
+    }
+    return accepted;
+}
+
 static const struct {
     const char *name;
     long (*calls)(const struct side *, long);
 } modes[] = {
     {"market-wheat", market_wheat}, {"market-corn", market_corn}, {"sheet", sheet},
     {"repair", repair},             {"chart-set", chart_set},     {"date", date},
+    {"day", day},                   {"working-day", working_day},
 };
 
 int main(int argc, char **argv)
@@ -142,6 +170,6 @@ int main(int argc, char **argv)
                 long count = strtol(argv[3], NULL, 10);
                 return modes[j].calls(&sides[i], count) == count ? 0 : 1;
             }
-    fprintf(stderr, "instructions core|plain market-wheat|market-corn|sheet|repair|chart-set|date COUNT\n");
+    fprintf(stderr, "instructions core|plain market-wheat|market-corn|sheet|repair|chart-set|date|day|working-day COUNT\n");
     return 2;
 }

@@ -7,36 +7,20 @@
 ghost use Rattle.std.specs.Prelude.{◌≡◌};
 ghost use Rattle.calendar_rules.specs.Weekdays.{weekday_on};
 ghost use Rattle.calendar_rules.specs.Calls.{day_of, date_of, weekday_of, working_day, results_due};
-ghost use Rattle.calendar_rules.specs.Counting.{is_date};
 ghost use Rattle.calendar.specs.Ends.{within_last};
 
-use calendar_dates::Year;
-use calendar_rules::{
-    DUE_DAYS, Date, Day, FIRST_YEAR, LAST_DAY, LAST_YEAR, MONTHS, Refusal, SINCE_MONDAY, WEEK,
-    Weekday,
-};
+use calendar_dates::ValidDate;
+use calendar_rules::{DUE_DAYS, Date, Day, LAST_DAY, Refusal, SINCE_MONDAY, WEEK, Weekday};
 
 // ---- dates and days
 
-// A date of the years 2000 to 2273.
-#[tactic(auto, unfolding(calendar_rules::specs::Counting::is_date))]
-fn is_date(d: Date) -> bool
-    ensures { result ≡ is_date d }
-{
-    (FIRST_YEAR..=LAST_YEAR).contains(&d.year)
-        && (1..=MONTHS).contains(&d.month)
-        && (1..=Year::from(d.year).month_length(d.month)).contains(&d.day)
-}
-
 // The day of a date.
-#[tactic(auto, using(calendar_rules::proofs::DateTests::is_yes, calendar_rules::proofs::DateTests::is_no, calendar_rules::proofs::Exact::no_day, calendar_rules::proofs::Exact::a_day, calendar_rules::proofs::Exact::in_by_number, calendar_rules::proofs::Exact::number_in))]
+#[tactic(auto, using(calendar_rules::proofs::Exact::no_day, calendar_rules::proofs::Exact::a_day, calendar_rules::proofs::Exact::in_by_number, calendar_rules::proofs::Exact::number_in))]
 pub fn day_from_date(date: Date) -> Result<u32, Refusal>
     ensures { result ≡ day_of date }
 {
-    if !is_date(date) {
-        return Err(Refusal::NoSuchDay);
-    }
-    Ok(Day::try_from(calendar_dates::day_number(date))?.number)
+    let date = ValidDate::try_from(date)?;
+    Ok(Day::try_from(date.number())?.number)
 }
 
 // The date of a day.

@@ -2,13 +2,14 @@
 
 #![tactic(auto)]
 
-ghost use Rattle.std.specs.Prelude.{◌≡◌, ◌≤◌, ◌<◌};
-ghost use Rattle.calendar_rules.specs.Dates.{leap_year, month_length, date_on};
+ghost use Rattle.std.specs.Prelude.{◌≡◌, ◌≤◌, ◌<◌, MatchResult};
+ghost use Rattle.calendar_rules.specs.Dates.{date, leap_year, month_length, date_on};
 ghost use Rattle.calendar_rules.specs.Counting.{year_start, lacking, month_start, day_number};
-ghost use Rattle.calendar_rules.specs.Laws.{Valid};
+ghost use Rattle.calendar_rules.specs.Laws.{Valid, InCalendar};
+ghost use Rattle.calendar_rules.specs.declared.Refusal.TheVariants.{NoSuchDay};
 ghost use Rattle.calendar_dates.specs.Parts.{InYear, InMonth};
 
-use calendar_rules::{Date, Day, FIRST_YEAR};
+use calendar_rules::{Date, Day, FIRST_YEAR, LAST_YEAR, MONTHS, Refusal};
 
 // ---- a year
 
@@ -34,7 +35,7 @@ impl From<u32> for Year {
 impl Year {
     // The days of a month; 0 of a month that there isn't.
     #[tactic(auto, unfolding(calendar_rules::specs::Dates::month_length))]
-    pub fn month_length(self, month: u32) -> u32
+    fn month_length(self, month: u32) -> u32
         ensures { result ≡ month_length self.number month }
     {
         match month {
@@ -90,14 +91,46 @@ impl Year {
 
 // ---- days and dates
 
-// The day of a date.
-#[tactic(auto, unfolding(calendar_rules::specs::Counting::day_number), using(calendar_rules::proofs::Succession::small_day, crate::proofs::YearLaws::start_high, crate::proofs::MonthLaws::month_small))]
-pub fn day_number(d: Date) -> u32
-    requires { Valid d × (d.year ≤ 2273) }
-    ensures { result ≡ day_number d }
-{
-    let year = Year::from(d.year);
-    year.start() + year.month_start(d.month) + (d.day - 1)
+// A date of the years 2000 to 2273, with its year taken up once.
+#[derive(Clone, Copy)]
+pub struct ValidDate {
+    pub year: Year,
+    pub month: u32,
+    pub day: u32,
+    pub ghost valid: { Valid (date year.number month day) × (year.number ≤ 2273) },
+}
+
+// The date, unless there is no such one.
+impl TryFrom<Date> for ValidDate {
+    type Error = Refusal;
+
+    ghost try_from_gives = { λ d r. MatchResult r (λ x. d ≡ date x.year.number x.month x.day) (λ e. (e ≡ NoSuchDay) × (InCalendar d → ⊥)) };
+
+    #[tactic(auto, unfolding(calendar_rules::specs::Counting::is_date), using(calendar_rules::proofs::DateTests::is_yes, calendar_rules::proofs::DateTests::is_no))]
+    fn try_from(d: Date) -> Result<ValidDate, Refusal> {
+        let year = Year::from(d.year);
+        if !((FIRST_YEAR..=LAST_YEAR).contains(&d.year)
+            && (1..=MONTHS).contains(&d.month)
+            && (1..=year.month_length(d.month)).contains(&d.day))
+        {
+            return Err(Refusal::NoSuchDay);
+        }
+        Ok(ValidDate {
+            year,
+            month: d.month,
+            day: d.day,
+        })
+    }
+}
+
+impl ValidDate {
+    // The day of the date, which may be past the last.
+    #[tactic(auto, unfolding(calendar_rules::specs::Counting::day_number), using(crate::proofs::YearLaws::start_high, crate::proofs::MonthLaws::month_small))]
+    pub fn number(self) -> u32
+        ensures { result ≡ day_number (date self.year.number self.month self.day) }
+    {
+        self.year.start() + self.year.month_start(self.month) + (self.day - 1)
+    }
 }
 
 // The year of a day: the quotient by the mean length of a year is it, or the year after.

@@ -55,7 +55,7 @@ impl TryFrom<u32> for Day {
     }
 }
 
-// Year, month 1 to 12, day 1 to the month's length. What computes with it are functions of calendar_dates and calendar, not methods: as methods their proofs would stand here, among the rules.
+// Year, month 1 to 12, day 1 to the month's length. What computes with it stands in calendar_dates and calendar: as methods its proofs would stand here, among the rules.
 #[derive(Clone, Copy)]
 pub struct Date {
     pub year: u32,
