@@ -5,11 +5,11 @@ use mathlib.Core.List.{List, [], ◌∷◌, ◌++◌}
 use Prim.Native.Nat.{ℕ, suc, ◌+◌, ◌-◌, ◌*◌, ◌≤◌, ◌<◌}
 use native.Mathlib.Numerals.{add-one}
 use native.Mathlib.Omega.{arith}
-use lib.Dec.{eqb, leb, ltb}
+use lib.Dec.{leb, ltb}
 use lib.IntN.{ℤ, pos, negsuc}
 use lib.ListN.{length, get_or, take, drop, drop_of_length-le}
 use lib.Seq.{drop-cons, take-suc, take_all}
-use borrow.Author.Tests.{ltb-true, ltb-false, le-leb, eqb-true, eqb-false}
+use borrow.Author.Tests.{ltb-true, ltb-false, le-leb}
 use Rattle.std.specs.Prelude.{Ok, Err}
 use Rattle.whole.specs.Places.{natural}
 use Rattle.std.proofs.lemmas.Bool.Decides.{nat_tests}
@@ -37,9 +37,9 @@ module _ (hs : List ℤ) (day count : ℕ) where
     pub small : found ≤ 7000000000 + 3 * i
     pub good : good_from least (drop i hs) ≡ good_from 0 hs
     pub plain : Plain (take i hs) least
-    pub after : 0 < count → WorkingDaysAfter (take i hs) day count found
+    pub after : WorkingDaysAfter (take i hs) day count found
 
-  pub passing_start : {found : ℕ} → (0 < count → WorkingDaysAfter [] day count found) → found ≤ 7000000000 → Passing 0 found 0
+  pub passing_start : {found : ℕ} → WorkingDaysAfter [] day count found → found ≤ 7000000000 → Passing 0 found 0
   passing_start a l =
       record { within = omega arith; few = omega arith; last = omega arith; small = omega arith; good = refl; plain = λ x h. none_listed x; after = a }
 
@@ -77,7 +77,7 @@ module _ (hs : List ℤ) (day count : ℕ) where
           small = omega (arith, g.small, passed_near h found);
           good = (λ j. good_from (add-one h j) (drop (add-one i j) hs)) ∙ sym (left_is ∙ ap (λ (t : Bool). t && good_from (suc h) rest) (and2 (le-leb least h low) (le-leb h 99999 high)));
           plain = subst (λ (l : List ℤ). Plain l (h + 1)) (sym listed) (λ x b. plain_on (take i hs) day count found least h g.plain low x (omega arith));
-          after = λ some. subst (λ (l : List ℤ). WorkingDaysAfter l day count (passed_of day h found)) (sym listed) (passes_over (take i hs) day count found least h g.plain low some (g.after some));
+          after = subst (λ (l : List ℤ). WorkingDaysAfter l day count (passed_of day h found)) (sym listed) (passes_over (take i hs) day count found least h g.plain low g.after);
         }
       where
         listed : take (i + 1) hs ≡ take i hs ++ (pos h ∷ [])
@@ -90,28 +90,22 @@ module _ (hs : List ℤ) (day count : ℕ) where
   -- ---- all are passed
 
   -- the day found, or past the last day
-  last_is : (found : ℕ) → day ≤ 99999 → (0 < count → WorkingDaysAfter hs day count found) → within_last day count found ≡ counted hs (99999 - day) day count
+  last_is : (found : ℕ) → day ≤ 99999 → WorkingDaysAfter hs day count found → within_last found ≡ counted hs (99999 - day) day count
   unfolding within_last
-  last_is found l a =
-      by_test (eqb count 0) (λ (t : Bool). cond t (Ok day) (cond (ltb 99999 found) (Err NoSuchDay) (Ok found)) ≡ counted hs (99999 - day) day count)
-      (λ e. sym (finds hs (99999 - day) day count day (itself (eqb-true count 0 e)) (omega arith)))
-      (λ e.
-      let w = a (omega (arith, eqb-false count 0 e)) in
+  last_is found l w =
       by_test (ltb 99999 found) (λ (t : Bool). cond t (Err NoSuchDay) (Ok found) ≡ counted hs (99999 - day) day count)
-      (λ f. sym (runs_out hs (99999 - day) day count (too_late w (eqb-false count 0 e) (ltb-true 99999 found f))))
-      (λ f. sym (finds hs (99999 - day) day count found w (omega (arith, ltb-false 99999 found f)))))
+      (λ f. sym (runs_out hs (99999 - day) day count (too_late (ltb-true 99999 found f))))
+      (λ f. sym (finds hs (99999 - day) day count found w (omega (arith, ltb-false 99999 found f))))
     where
-      itself : count ≡ 0 → WorkingDaysAfter hs day count day
-      itself z = record { later = omega arith; counts = omega arith; none = λ x. refl; some = λ x. absurd (omega arith) }
-
-      too_late : WorkingDaysAfter hs day count found → (count ≡ 0 → ⊥) → 99999 < found → up_to (is_working hs) (day + (99999 - day)) < up_to (is_working hs) day + count
-      too_late w n b =
+      too_late : 99999 < found → up_to (is_working hs) (day + (99999 - day)) < up_to (is_working hs) day + count
+      too_late b =
           let e : day + (99999 - day) ≡ 99999 = omega arith in
-          omega (arith, w.counts, more (is_working hs) 99999 found b (w.some (omega (arith, n))), ap (up_to (is_working hs)) e)
+          let some : 0 < count = grind (arith, w.none) in
+          omega (arith, w.counts, more (is_working hs) 99999 found b (w.some some), ap (up_to (is_working hs)) e)
 
-  pub passing_done : {i found least : ℕ} → Passing i found least → length hs ≤ i → day ≤ 99999 → within_last day count found ≡ working_day day count hs
+  pub passing_done : {i found least : ℕ} → Passing i found least → length hs ≤ i → day ≤ 99999 → within_last found ≡ working_day day count hs
   unfolding good_from
   passing_done {i} {found} {least} g e l =
       let all : take i hs ≡ hs = take_all i hs e in
       let good : bad_holidays hs ≡ false = by_one_pass hs ∙ ap not (sym g.good ∙ ap (good_from least) (drop_of_length-le hs e)) in
-      last_is found l (λ some. subst (λ (hs' : List ℤ). WorkingDaysAfter hs' day count found) all (g.after some)) ∙ sym (good_list day count hs l good)
+      last_is found l (subst (λ (hs' : List ℤ). WorkingDaysAfter hs' day count found) all g.after) ∙ sym (good_list day count hs l good)

@@ -60,27 +60,25 @@ pub fn weekday(day: u32) -> Result<Weekday, Refusal>
 
 // ---- working days
 
-// The day found, unless it is past the last; a count of 0 gives the day itself.
+// The day found, unless it is past the last.
 #[tactic(auto, unfolding(crate::specs::Ends::within_last))]
-fn within_last(day: Day, count: u32, found: u64) -> Result<u32, Refusal>
-    ensures { result ≡ within_last day.number count found }
+fn within_last(found: u64) -> Result<u32, Refusal>
+    ensures { result ≡ within_last found }
 {
-    if count == 0 {
-        return Ok(day.number);
-    }
     if u64::from(LAST_DAY) < found {
         return Err(Refusal::NoSuchDay);
     }
     Ok(found as u32)
 }
 
-// The day that is so many working days after a day; the holidays are the days listed. Found first without holidays, then with one more of them at a time.
+// The day that is so many working days after a day; the holidays are the days listed. How far ahead it lies is found first without holidays, then with one more of them at a time.
 #[tactic(auto, using(calendar_rules::proofs::Working::no_start))]
 pub fn working_day(day: u32, count: u32, holidays: &[i32]) -> Result<u32, Refusal>
     ensures { result ≡ working_day day count holidays.now }
 {
     let start = Day::try_from(day)?;
-    let mut found = calendar_working::without_holidays(start, count);
+    let origin = u64::from(start.number);
+    let mut ahead = calendar_working::without_holidays(start, count) - origin;
     let mut least = 0;
     for holiday in holidays {
         // a negative one is past the last day then; one test of both bounds, since by Day's try_from each took two instructions more
@@ -88,10 +86,10 @@ pub fn working_day(day: u32, count: u32, holidays: &[i32]) -> Result<u32, Refusa
         if !(least..=LAST_DAY).contains(&holiday) {
             return Err(Refusal::BadHolidays);
         }
-        found = calendar_working::passed(start.number, Day { number: holiday }, found);
+        ahead = calendar_working::passed(start, Day { number: holiday }, ahead);
         least = holiday + 1;
     }
-    within_last(start, count, found)
+    within_last(origin + ahead)
 }
 
 // The day by which monitoring results are due at the service point, from the day of retrieval.

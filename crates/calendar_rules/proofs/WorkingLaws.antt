@@ -121,7 +121,7 @@ module _ (hs : List ℤ) where
       (λ y. omega (arith, next_yes works day y, ap (up_to works) s, eqb-false count 0 e)) (λ y. omega (arith, next_no works day y, ap (up_to works) s))))
 
   -- a count of 0 gives the day itself
-  itself : (day count d left : ℕ) → count ≡ 0 → d ≡ day → (d ≤ day + left) × WorkingDaysAfter hs day count d
+  pub itself : (day count d left : ℕ) → count ≡ 0 → d ≡ day → (d ≤ day + left) × WorkingDaysAfter hs day count d
   itself day count d left z e =
       (omega arith, record { later = omega arith; counts = omega (arith, ap (up_to works) e); none = λ x. e; some = λ x. absurd (omega arith) })
 

@@ -7,13 +7,14 @@ use native.Mathlib.Omega.{arith}
 use lib.Dec.{eqb, leb, ltb}
 use lib.IntN.{ℤ, pos}
 use borrow.Author.Tests.{ltb-true, ltb-false, leb-true, leb-false, eqb-true, eqb-false, lt-ltb, le-ltb}
+use Rattle.std.proofs.lemmas.Bool.Decides.{nat_tests}
 use Rattle.whole.specs.Lists.{any}
 use Rattle.whole.proofs.ListLaws.{by_test}
 use Rattle.whole.proofs.Tests.{and_both, and_false, or_false, or_assoc}
 use Rattle.calendar_rules.specs.Working.{monday_to_friday, is_day, is_working}
 use Rattle.calendar_rules.specs.Laws.{up_to, WorkingDaysAfter}
 use Rattle.calendar_rules.proofs.WeekdayLaws.{five_of_seven}
-use Rattle.calendar_rules.proofs.WorkingLaws.{next_yes, next_no, other_day, before_it, from_it, unchanged, not_in_it, later_than}
+use Rattle.calendar_rules.proofs.WorkingLaws.{next_yes, next_no, other_day, before_it, from_it, unchanged, not_in_it, later_than, itself}
 use Rattle.calendar_working.specs.Passes.{next_of, passed_of}
 
 -- ---- the list with one holiday more
@@ -91,7 +92,7 @@ module _ (hs : List ℤ) (day count found least h : ℕ) (plain : Plain hs least
   pub plain_on : Plain longer (suc h)
   plain_on x l = other_day p q h is x (omega arith) ∙ plain x (omega arith)
 
-  module _ (some : 0 < count) (a : WorkingDaysAfter hs day count found) where
+  module _ (a : WorkingDaysAfter hs day count found) (some : 0 < count) where
     found_later : day < found
     found_later = later_than hs day count found (omega arith) a
 
@@ -150,9 +151,9 @@ module _ (hs : List ℤ) (day count found least h : ℕ) (plain : Plain hs least
             some = λ z. other_day p q h is (next_of found) (omega (arith, n.later)) ∙ n.passes;
           }
 
-    pub passes_over : WorkingDaysAfter longer day count (passed_of day h found)
+    some_counted : WorkingDaysAfter longer day count (passed_of day h found)
     unfolding passed_of
-    passes_over =
+    some_counted =
         by_test (monday_to_friday h) (λ (t : Bool). WorkingDaysAfter longer day count (cond (ltb day h && leb h found && t) (next_of found) found))
         (λ e.
         by_test (ltb day h) (λ (t : Bool). WorkingDaysAfter longer day count (cond (t && leb h found && true) (next_of found) found))
@@ -161,3 +162,16 @@ module _ (hs : List ℤ) (day count found least h : ℕ) (plain : Plain hs least
         (λ g. was_counted e (ltb-true day h f) (leb-true h found g)) (λ g. behind_found e (ltb-true day h f) (leb-false h found g)))
         (λ f. before_start e (ltb-false day h f)))
         (λ e. subst (λ (t : Bool). WorkingDaysAfter longer day count (cond t (next_of found) found)) (sym (and_false (ltb day h && leb h found))) (at_weekend e))
+
+  -- none is counted: the day found is the day itself, and no holiday moves it on
+  none_counted : WorkingDaysAfter hs day count found → count ≡ 0 → WorkingDaysAfter longer day count (passed_of day h found)
+  unfolding passed_of
+  none_counted a z =
+      let e : found ≡ day = a.none z in
+      let still : ltb day h && leb h found && monday_to_friday h ≡ false = grind (arith, nat_tests, e) in
+      rw still (itself longer day count found 0 z e).1
+
+  pub passes_over : WorkingDaysAfter hs day count found → WorkingDaysAfter longer day count (passed_of day h found)
+  passes_over a =
+      by_test (eqb count 0) (λ (t : Bool). WorkingDaysAfter longer day count (passed_of day h found))
+      (λ e. none_counted a (eqb-true count 0 e)) (λ e. some_counted a (omega (arith, eqb-false count 0 e)))
