@@ -15,7 +15,7 @@ use calendar_rules::{DUE_DAYS, Date, Day, LAST_DAY, Refusal, SINCE_MONDAY, WEEK,
 // ---- dates and days
 
 // The day of a date.
-#[tactic(auto, using(calendar_rules::proofs::Exact::no_day, calendar_rules::proofs::Exact::a_day, calendar_rules::proofs::Exact::in_by_number, calendar_rules::proofs::Exact::number_in))]
+#[tactic(auto, using(calendar_rules::proofs::DateTests::is_no, calendar_rules::proofs::Exact::no_day, calendar_rules::proofs::Exact::a_day, calendar_rules::proofs::Exact::in_by_number, calendar_rules::proofs::Exact::number_in))]
 pub fn day_from_date(date: Date) -> Result<u32, Refusal>
     ensures { result ≡ day_of date }
 {

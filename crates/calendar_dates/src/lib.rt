@@ -2,10 +2,10 @@
 
 #![tactic(auto)]
 
-ghost use Rattle.std.specs.Prelude.{◌≡◌, ◌≤◌, ◌<◌, MatchResult};
+ghost use Rattle.std.specs.Prelude.{◌≡◌, ◌≤◌, ◌<◌, false, MatchResult};
 ghost use Rattle.calendar_rules.specs.Dates.{date, leap_year, month_length, date_on};
-ghost use Rattle.calendar_rules.specs.Counting.{year_start, lacking, month_start, day_number};
-ghost use Rattle.calendar_rules.specs.Laws.{Valid, InCalendar};
+ghost use Rattle.calendar_rules.specs.Counting.{year_start, lacking, month_start, day_number, is_date};
+ghost use Rattle.calendar_rules.specs.Laws.{Valid};
 ghost use Rattle.calendar_rules.specs.declared.Refusal.TheVariants.{NoSuchDay};
 ghost use Rattle.calendar_dates.specs.Parts.{InYear, InMonth};
 
@@ -100,13 +100,13 @@ pub struct ValidDate {
     pub ghost valid: { Valid (date year.number month day) × (year.number ≤ 2273) },
 }
 
-// The date, unless there is no such one.
+// The date, unless these years have no such one.
 impl TryFrom<Date> for ValidDate {
     type Error = Refusal;
 
-    ghost try_from_gives = { λ d r. MatchResult r (λ x. d ≡ date x.year.number x.month x.day) (λ e. (e ≡ NoSuchDay) × (InCalendar d → ⊥)) };
+    ghost try_from_gives = { λ d r. MatchResult r (λ x. d ≡ date x.year.number x.month x.day) (λ e. (e ≡ NoSuchDay) × (is_date d ≡ false)) };
 
-    #[tactic(auto, unfolding(calendar_rules::specs::Counting::is_date), using(calendar_rules::proofs::DateTests::is_yes, calendar_rules::proofs::DateTests::is_no))]
+    #[tactic(auto, unfolding(calendar_rules::specs::Counting::is_date), using(calendar_rules::proofs::DateTests::is_yes))]
     fn try_from(d: Date) -> Result<ValidDate, Refusal> {
         let year = Year::from(d.year);
         if !((FIRST_YEAR..=LAST_YEAR).contains(&d.year)
