@@ -1,5 +1,6 @@
 /* The core beside plain C: first both are given random and hostile calls, a sheet also with its samples in another order,
- * every day and date of the calendar, and every byte of their answers and states is compared; then they are timed.
+ * every day and date of the calendar, a ship lot also in other records, and every byte of their answers and states is
+ * compared; then they are timed.
  *
  *     cc -O2 -Iinclude bench/bench.c bench/plain.c crates/abi/out/libabi.a -o target/bench
  *     target/bench          21 rounds after one to warm up
@@ -35,17 +36,18 @@ struct side {
     struct grain_weekday (*weekday_of_day)(uint32_t);
     struct grain_day (*working_day)(uint32_t, uint32_t, const int32_t *, size_t);
     struct grain_day (*results_due)(uint32_t, const int32_t *, size_t);
+    struct grain_lot (*ship_lot)(const struct grain_sublot *, size_t);
 };
 
 static const struct side core = {
     grain_reading,        grain_open,        grain_sheet,       grain_repair,        grain_market,
     grain_chart_open,     grain_chart_set,   grain_chart_text,  grain_day_from_date, grain_date_from_day,
-    grain_weekday_of_day, grain_working_day, grain_results_due,
+    grain_weekday_of_day, grain_working_day, grain_results_due, grain_ship_lot,
 };
 static const struct side plain = {
     plain_reading,        plain_open,        plain_sheet,       plain_repair,        plain_market,
     plain_chart_open,     plain_chart_set,   plain_chart_text,  plain_day_from_date, plain_date_from_day,
-    plain_weekday_of_day, plain_working_day, plain_results_due,
+    plain_weekday_of_day, plain_working_day, plain_results_due, plain_ship_lot,
 };
 
 static void fail(const char *why)
@@ -155,10 +157,11 @@ static size_t fill_text(uint8_t *text, size_t least)
 
 /* ---- The comparison ---- */
 
-enum { CALLS = 200000, TEXTS = 20000, GUARD = 16, KINDS = 13, NUMBERS = 29 };
+enum { CALLS = 200000, TEXTS = 20000, GUARD = 16, KINDS = 14, NUMBERS = 32 };
 
 static uint64_t gluten_certified, compared, accepted[KINDS], refused[NUMBERS], moved_accepted, moved_refused[8];
 static uint64_t adjusted, shut_nothing_kept, shut_at_bound; /* lines, by sheets */
+static uint64_t lots_moved, lots_spelled_out, halves_up, largest_lots;
 
 /* Counts an answer; its first two words are accepted and number. */
 static void count(int call, const void *answer)
@@ -172,7 +175,7 @@ static void count(int call, const void *answer)
         refused[head[1]]++;
 }
 
-/* Exits unless both are the same: the core's and plain C's, or a sheet's as given and in another order. */
+/* Exits unless both are the same: the core's and plain C's, or a sheet's or lot's as given and in another order. */
 static void same(const char *what, const void *first, const void *second, size_t size)
 {
     if (memcmp(first, second, size) == 0)
@@ -592,6 +595,139 @@ static void compare_working_days(void)
     }
 }
 
+/* A number at or beside a bound, or any edge. */
+static int32_t beside(int32_t least, int32_t most)
+{
+    switch (range(0, 4)) {
+    case 0:
+        return least - range(0, 1);
+    case 1:
+    case 2:
+        return most + range(0, 1);
+    case 3:
+        return (int32_t)bits();
+    default:
+        return edge();
+    }
+}
+
+/* Room for lots that have too many records. */
+enum { LOT_ROOM = GRAIN_LOT_RECORDS + 10 };
+
+static size_t some_lot_length(void)
+{
+    switch (range(0, 39)) {
+    case 0:
+        return 0;
+    case 1:
+        return (size_t)range(GRAIN_LOT_RECORDS - 1, GRAIN_LOT_RECORDS + 2);
+    case 2:
+        return (size_t)range(1, LOT_ROOM);
+    default:
+        return (size_t)range(1, 12);
+    }
+}
+
+/* Puts a record at a bound or beyond it, or at another basis. */
+static void spoil_sublot(struct grain_sublot *record)
+{
+    switch (range(0, 4)) {
+    case 0:
+        record->figure = beside(0, 1000);
+        break;
+    case 1:
+        record->basis = beside(0, 5000);
+        break;
+    case 2:
+        record->tonnes = beside(1, 1000000);
+        break;
+    default:
+        record->basis += record->basis < 5000 ? 1 : -1;
+    }
+}
+
+/* Sublots of one basis: figures near each other or not, few tonnes or many, or the largest of both. One or two of their
+ * records are sometimes spoiled, also the last. */
+static void fill_lot(struct grain_sublot *records, size_t length)
+{
+    static const int32_t bases[4] = {0, 1200, 1400, 5000}, spreads[4] = {0, 1, 9, 1000};
+    static const int32_t heaviest[4] = {1, 12, 60000, 1000000};
+    int32_t basis = one_in(2) ? range(0, 5000) : bases[bits() % 4], spread = spreads[bits() % 4];
+    int32_t lowest = range(0, 1000 - spread), most = heaviest[bits() % 4];
+    bool largest = one_in(50);
+    for (size_t i = 0; i < length; i++) {
+        records[i].figure = largest ? 1000 : lowest + range(0, spread);
+        records[i].basis = basis;
+        records[i].tonnes = largest ? 1000000 : range(1, most);
+    }
+    if (length && one_in(3))
+        for (int wrong = range(1, 2); wrong > 0; wrong--)
+            spoil_sublot(&records[one_in(4) ? length - 1 : bits() % length]);
+}
+
+static struct grain_lot both_lots(const struct grain_sublot *records, size_t length)
+{
+    static struct grain_sublot copy[LOT_ROOM + 1];
+    size_t size = (length + 1) * sizeof records[0];
+    memcpy(copy, records, size);
+    struct grain_lot one = core.ship_lot(length ? records : NULL, length), other = plain.ship_lot(copy, length);
+    same("a lot's answer", &one, &other, sizeof one);
+    same("a lot's records", records, copy, size);
+    count(13, &one);
+    return one;
+}
+
+static void move_records(struct grain_sublot *records, size_t length)
+{
+    for (size_t left = length; left > 1; left--) {
+        struct grain_sublot *one = &records[bits() % left], last = records[left - 1];
+        records[left - 1] = *one;
+        *one = last;
+    }
+}
+
+/* Writes a lot in records of one tonne; answers how many they are. */
+static size_t spell_out(const struct grain_sublot *records, size_t length, struct grain_sublot *singles)
+{
+    size_t tonnes = 0;
+    for (size_t i = 0; i < length; i++)
+        for (int32_t left = records[i].tonnes; left > 0; left--) {
+            singles[tonnes] = records[i];
+            singles[tonnes++].tonnes = 1;
+        }
+    return tonnes;
+}
+
+/* A lot; then, where that changes its records, its tonnes in records of one, if there are few enough, or its records in
+ * another order: the core must answer the same, and both_lots holds plain C to the core. Behind the last record stands one
+ * that is not the lot's. */
+static void compare_lots(void)
+{
+    static struct grain_sublot records[LOT_ROOM + 1], was[LOT_ROOM], singles[LOT_ROOM + 1];
+    for (int i = 0; i < CALLS; i++) {
+        size_t length = some_lot_length();
+        fill_lot(records, length);
+        fill(&records[length], sizeof records[0]);
+        struct grain_lot given = both_lots(records, length), then;
+        halves_up += given.accepted && 2 * (given.weighted_sum % given.tonnes) == given.tonnes;
+        largest_lots += given.weighted_sum == UINT64_C(500000000000);
+        if (given.accepted && given.tonnes <= GRAIN_LOT_RECORDS && given.tonnes > length && one_in(2)) {
+            size_t tonnes = spell_out(records, length, singles);
+            fill(&singles[tonnes], sizeof singles[0]);
+            then = both_lots(singles, tonnes);
+            lots_spelled_out++;
+        } else {
+            memcpy(was, records, length * sizeof was[0]);
+            move_records(records, length);
+            if (memcmp(was, records, length * sizeof was[0]) == 0)
+                continue;
+            then = both_lots(records, length);
+            lots_moved++;
+        }
+        same("the answer to other records", &given, &then, sizeof given);
+    }
+}
+
 /* Every call was accepted and every number met. */
 static void all_met(const char *const calls[KINDS])
 {
@@ -604,6 +740,10 @@ static void all_met(const char *const calls[KINDS])
         fail("no gluten was certified");
     if (!adjusted || !shut_nothing_kept || !shut_at_bound)
         fail("no line was adjusted, or none was shut in one of the two ways");
+    if (!lots_moved || !lots_spelled_out)
+        fail("no ship lot was given in another order, or none in records of one tonne");
+    if (!halves_up || !largest_lots)
+        fail("no ship lot had its mean at a half, or none was the largest");
     for (int i = 0; i < NUMBERS; i++)
         if (!refused[i]) {
             fprintf(stderr, "bench: number %d was never met\n", i);
@@ -615,7 +755,7 @@ static void compare(void)
 {
     static const char *const calls[KINDS] = {
         "reading", "opening",       "sheet",         "repair",  "market test", "chart opening", "set",
-        "text",    "day from date", "date from day", "weekday", "working day", "results due",
+        "text",    "day from date", "date from day", "weekday", "working day", "results due",   "ship lot",
     };
     seed = 1;
     compare_readings();
@@ -624,6 +764,8 @@ static void compare(void)
     compare_texts();
     compare_dates();
     compare_working_days();
+    uint64_t before_lots = compared;
+    compare_lots();
     all_met(calls);
     uint64_t moved = moved_accepted;
     if (!moved_accepted)
@@ -634,7 +776,10 @@ static void compare(void)
         if (i != 1 && !moved_refused[i])
             fail("a number was never met by a sheet in another order");
     }
-    printf("%" PRIu64 " calls compared, %" PRIu64 " of them sheets in another order, no difference; ", compared, moved);
+    printf("%" PRIu64 " calls compared, %" PRIu64 " of them sheets in another order and %" PRIu64 " ship lots, ",
+           compared, moved, compared - before_lots);
+    printf("of these %" PRIu64 " in another order and %" PRIu64 " in records of one tonne, no difference; ", lots_moved,
+           lots_spelled_out);
     printf("every refusal met; accepted:");
     for (int i = 0; i < KINDS; i++)
         printf("%s %s %" PRIu64, i ? "," : "", calls[i], accepted[i]);
@@ -691,6 +836,9 @@ static struct grain_date dates[INPUTS];
 static uint32_t days[INPUTS], starts[INPUTS], counts[INPUTS];
 static int32_t the_holidays[HOLIDAYS];
 static size_t holidays_length;
+static struct grain_sublot sublots[INPUTS + GRAIN_LOT_RECORDS];
+static size_t lot_length;
+static int lot_passes;
 
 static int samples_of(int32_t row)
 {
@@ -980,6 +1128,30 @@ WORK(working_days_work)
 }
 FOR_BOTH(working_days_work)
 
+static void make_sublots(void)
+{
+    for (int i = 0; i < INPUTS + GRAIN_LOT_RECORDS; i++) {
+        sublots[i].figure = range(110, 150);
+        sublots[i].basis = 1200;
+        sublots[i].tonnes = range(300, 3000);
+    }
+}
+
+/* Each lot begins with another sublot. */
+WORK(lots_work)
+{
+    uint64_t sum = 0;
+    double start = now();
+    for (int pass = 0; pass < lot_passes; pass++)
+        for (int i = 0; i < INPUTS; i++) {
+            struct grain_lot l = side->ship_lot(&sublots[i], lot_length);
+            sum += l.accepted + (uint64_t)l.basis + l.lowest + l.highest + l.mean + l.tonnes + l.weighted_sum;
+        }
+    *seconds += now() - start;
+    return sum;
+}
+FOR_BOTH(lots_work)
+
 enum { MOST_ROUNDS = 1000 };
 
 static int rounds = 21;
@@ -1038,6 +1210,17 @@ static void time_calendar(void)
     ROW("working days, 60 holidays", working_days_work, 60.0 * INPUTS, "a call");
 }
 
+static void time_lots(void)
+{
+    make_sublots();
+    lot_length = 5;
+    lot_passes = 60;
+    ROW("ship lots, 5 records", lots_work, 60.0 * INPUTS, "a call");
+    lot_length = GRAIN_LOT_RECORDS;
+    lot_passes = 2;
+    ROW("ship lots, 500 records", lots_work, 2.0 * INPUTS, "a call");
+}
+
 int main(int argc, char **argv)
 {
     if (argc > 1)
@@ -1072,5 +1255,6 @@ int main(int argc, char **argv)
     make_text();
     ROW("chart text", text_work, 15.0 * (double)text_length, "a byte");
     time_calendar();
+    time_lots();
     return 0;
 }

@@ -751,3 +751,46 @@ struct grain_day plain_results_due(uint32_t day, const int32_t *holidays, size_t
 {
     return plain_working_day(day, 2, holidays, holidays_len);
 }
+
+/* ---- Ship lots ---- */
+
+static bool bad_sublot(const struct grain_sublot *record)
+{
+    return record->tonnes < 1 || record->tonnes > 1000000 || record->figure < 0 || record->figure > 1000 ||
+           record->basis < 0 || record->basis > 5000;
+}
+
+/* A bad record ends the pass, wherever it stands; unlike bases are told after it, as a bad record may still come. Of a
+ * good record, figure times tonnes is at most 1000000000. */
+struct grain_lot plain_ship_lot(const struct grain_sublot *records, size_t count)
+{
+    if (count < 1 || count > GRAIN_LOT_RECORDS)
+        return (struct grain_lot){.number = 29};
+    int32_t basis = records[0].basis, lowest = INT32_MAX, highest = INT32_MIN;
+    uint64_t tonnes = 0, weighted_sum = 0;
+    bool unlike = false;
+    for (size_t i = 0; i < count; i++) {
+        const struct grain_sublot *record = &records[i];
+        if (bad_sublot(record))
+            return (struct grain_lot){.number = 30};
+        if (record->basis != basis)
+            unlike = true;
+        if (record->figure < lowest)
+            lowest = record->figure;
+        if (record->figure > highest)
+            highest = record->figure;
+        tonnes += (uint64_t)record->tonnes;
+        weighted_sum += (uint64_t)(record->figure * record->tonnes);
+    }
+    if (unlike)
+        return (struct grain_lot){.number = 31};
+    return (struct grain_lot){
+        .accepted = 1,
+        .basis = basis,
+        .lowest = (uint32_t)lowest,
+        .highest = (uint32_t)highest,
+        .mean = (uint32_t)((2 * weighted_sum + tonnes) / (2 * tonnes)),
+        .tonnes = tonnes,
+        .weighted_sum = weighted_sum,
+    };
+}

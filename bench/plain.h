@@ -22,5 +22,6 @@ struct grain_date plain_date_from_day(uint32_t day);
 struct grain_weekday plain_weekday_of_day(uint32_t day);
 struct grain_day plain_working_day(uint32_t day, uint32_t count, const int32_t *holidays, size_t holidays_len);
 struct grain_day plain_results_due(uint32_t day, const int32_t *holidays, size_t holidays_len);
+struct grain_lot plain_ship_lot(const struct grain_sublot *records, size_t count);
 
 #endif

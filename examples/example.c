@@ -1,8 +1,10 @@
-/* A wheat station's first days, wet gluten too, a chart set and a chart text, and the calendar. Prints what the calls
- * answer. A line that isn't open says why: it was adjusted (day 1), it is new (day 4), it was shut (day 5). */
+/* A wheat station's first days, wet gluten too, a chart set and a chart text, the calendar, and a ship lot of sublots
+ * that the station certifies. Prints what the calls answer. A line that isn't open says why: it was adjusted (day 1),
+ * it is new (day 4), it was shut (day 5). */
 #include "grain.h"
 
 #include <inttypes.h>
+#include <stdbool.h>
 #include <stdio.h>
 #include <string.h>
 
@@ -98,6 +100,49 @@ static void calendar(struct grain_station *station)
     monitored();
 }
 
+/* Certifies a sublot and writes its record. The figure that stands at the certificate's basis is the converted one. A
+ * refused certificate is all zeros, which would pass for a record. */
+static bool certify(struct grain_station *station, float percent, uint32_t basis_kind, int32_t tonnes,
+                    struct grain_sublot *record)
+{
+    struct grain_certificate c = grain_market(station, (uint32_t)station->day, GRAIN_LINE_PROTEIN, GRAIN_WHEAT, percent,
+                                              0, 0, GRAIN_LINE_FIGURE, basis_kind, 0);
+    if (!c.accepted) {
+        refused("sublot", c.number);
+        return false;
+    }
+    record->figure = (int32_t)c.converted;
+    record->basis = c.basis;
+    record->tonnes = tonnes;
+    return true;
+}
+
+static void ship_lot(const struct grain_sublot *records, size_t count)
+{
+    struct grain_lot l = grain_ship_lot(records, count);
+    if (!l.accepted) {
+        refused("ship lot", l.number);
+        return;
+    }
+    printf("ship lot: %" PRIu64 " tonnes, %" PRIu32 ".%" PRIu32 " to %" PRIu32 ".%" PRIu32 " percent", l.tonnes,
+           l.lowest / 10, l.lowest % 10, l.highest / 10, l.highest % 10);
+    printf(" at moisture %" PRId32 ".%02" PRId32 ", mean %" PRIu32 ".%" PRIu32 " (%" PRIu64 " / %" PRIu64 " tenths)\n",
+           l.basis / 100, l.basis % 100, l.mean / 10, l.mean % 10, l.weighted_sum, l.tonnes);
+}
+
+/* Of the figures 13.4 and 13.5 alone the mean would be rounded to 13.5; by tonnes it is 13.4. The third sublot was
+ * certified dry: it can't be stated with them. */
+static void shipped(struct grain_station *station)
+{
+    struct grain_sublot records[3];
+    if (!certify(station, 13.54f, GRAIN_STANDARD, 11000, &records[0]) ||
+        !certify(station, 13.61f, GRAIN_STANDARD, 9000, &records[1]) ||
+        !certify(station, 13.54f, GRAIN_DRY, 5000, &records[2]))
+        return;
+    ship_lot(records, 2);
+    ship_lot(records, 3);
+}
+
 int main(void)
 {
     struct grain_station station;
@@ -134,5 +179,6 @@ int main(void)
         refused("chart text", written.number);
     }
     calendar(&station);
+    shipped(&station);
     return 0;
 }

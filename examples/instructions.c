@@ -22,13 +22,14 @@ struct side {
     struct grain_date (*date_from_day)(uint32_t);
     struct grain_day (*day_from_date)(uint32_t, uint32_t, uint32_t);
     struct grain_day (*working_day)(uint32_t, uint32_t, const int32_t *, size_t);
+    struct grain_lot (*ship_lot)(const struct grain_sublot *, size_t);
 };
 
 static const struct side sides[2] = {
     {"core", grain_open, grain_sheet, grain_repair, grain_market, grain_chart_open, grain_chart_set,
-     grain_date_from_day, grain_day_from_date, grain_working_day},
+     grain_date_from_day, grain_day_from_date, grain_working_day, grain_ship_lot},
     {"plain", plain_open, plain_sheet, plain_repair, plain_market, plain_chart_open, plain_chart_set,
-     plain_date_from_day, plain_day_from_date, plain_working_day},
+     plain_date_from_day, plain_day_from_date, plain_working_day, plain_ship_lot},
 };
 
 /* A station with four sets on each of its lines, of days 1 to 4. */
@@ -153,13 +154,36 @@ static long working_day(const struct side *side, long count)
     return accepted;
 }
 
+/* Ship lots of so many records at one basis. */
+static long lot(const struct side *side, size_t length, long count)
+{
+    struct grain_sublot records[GRAIN_LOT_RECORDS];
+    for (int32_t i = 0; i < GRAIN_LOT_RECORDS; i++)
+        records[i] = (struct grain_sublot){110 + i * 17 % 40, 1200, 300 + i * 7919 % 2700};
+    long accepted = 0;
+    for (long i = 0; i < count; i++)
+        accepted += side->ship_lot(records, length).accepted;
+    return accepted;
+}
+
+static long lot_5(const struct side *side, long count)
+{
+    return lot(side, 5, count);
+}
+
+static long lot_500(const struct side *side, long count)
+{
+    return lot(side, 500, count);
+}
+
 static const struct {
     const char *name;
     long (*calls)(const struct side *, long);
 } modes[] = {
     {"market-wheat", market_wheat}, {"market-corn", market_corn}, {"sheet", sheet},
     {"repair", repair},             {"chart-set", chart_set},     {"date", date},
-    {"day", day},                   {"working-day", working_day},
+    {"day", day},                   {"working-day", working_day}, {"lot-5", lot_5},
+    {"lot-500", lot_500},
 };
 
 int main(int argc, char **argv)
@@ -170,6 +194,7 @@ int main(int argc, char **argv)
                 long count = strtol(argv[3], NULL, 10);
                 return modes[j].calls(&sides[i], count) == count ? 0 : 1;
             }
-    fprintf(stderr, "instructions core|plain market-wheat|market-corn|sheet|repair|chart-set|date|day|working-day COUNT\n");
+    fprintf(stderr, "instructions core|plain market-wheat|market-corn|sheet|repair|chart-set|date|day|working-day|"
+                    "lot-5|lot-500 COUNT\n");
     return 2;
 }

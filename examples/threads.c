@@ -1,5 +1,5 @@
-/* All thirteen calls from four threads at once, each on stations and charts of its own and all over the same holidays,
- * beside the same calls by one thread: every answer, state and output must be the same. */
+/* All fourteen calls from four threads at once, each on stations and charts of its own and all over the same holidays
+ * and sublots, beside the same calls by one thread: every answer, state and output must be the same. */
 #define _POSIX_C_SOURCE 200809L
 
 #include "grain.h"
@@ -10,10 +10,16 @@
 #include <stdlib.h>
 #include <string.h>
 
-enum { THREADS = 4, CALLS = 100000, STATIONS = 8, CHARTS = 8, KINDS = 13, HOLIDAYS = 11 };
+enum { THREADS = 4, CALLS = 100000, STATIONS = 8, CHARTS = 8, KINDS = 14, HOLIDAYS = 11, SUBLOTS = 8 };
 
 /* Those of 2026, as days. */
 static const int32_t holidays[HOLIDAYS] = {9497, 9515, 9543, 9641, 9666, 9681, 9746, 9781, 9811, 9826, 9855};
+
+/* The last two are of another basis, and the last has no tonnes. */
+static const struct grain_sublot sublots[SUBLOTS] = {
+    {134, 1200, 11000}, {135, 1200, 9000},    {128, 1200, 1},    {141, 1200, 500},
+    {137, 1200, 26000}, {129, 1200, 1000000}, {152, 0, 20000},   {151, 0, 0},
+};
 
 /* What one thread works on and what it was answered. */
 struct job {
@@ -66,13 +72,24 @@ static void calendar_call(struct job *job)
     }
 }
 
+/* A lot of sublots that follow each other, or of none. */
+static void lot_call(struct job *job)
+{
+    uint32_t first = draw(job, SUBLOTS), count = draw(job, SUBLOTS - first + 1);
+    struct grain_lot l = grain_ship_lot(&sublots[first], count);
+    take(job, &l, sizeof l);
+    job->accepted[13] += l.accepted;
+}
+
 static void one_call(struct job *job)
 {
     struct grain_station *station = &job->stations[draw(job, STATIONS)];
     struct grain_chart *chart = &job->charts[draw(job, CHARTS)];
-    uint32_t day = (uint32_t)station->day + draw(job, 2), call = draw(job, 45);
+    uint32_t day = (uint32_t)station->day + draw(job, 2), call = draw(job, 46);
     uint64_t line = station->row == GRAIN_ROW_CORN ? draw(job, 3) : 0;
-    if (call >= 40) {
+    if (call == 45) {
+        lot_call(job);
+    } else if (call >= 40) {
         calendar_call(job);
     } else if (call == 0) {
         struct grain_answer a = grain_open(station, draw(job, 3));

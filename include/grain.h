@@ -1,11 +1,11 @@
 /* The measuring core of a grain laboratory service: analyser readings, reference sheets and intercepts, market tests,
- * control charts, a calendar. For C11, C++11 and later. Link libabi.a; nothing else is needed.
+ * control charts, a calendar, ship lots. For C11, C++11 and later. Link libabi.a; nothing else is needed.
  *
  * State. A station and a chart are plain structs of int32_t in the caller's memory, opened by a call and then changed in
  * place. They hold no pointers: copy, store and compare them as you like, and store GRAIN_LAYOUT beside them. Whatever
  * comes back from storage may be handed in: a state with a field out of its bounds, or sheets out of the order of their
  * days, is refused by number 0. Lines that the row doesn't use and sets beyond `held` may hold anything; they are not
- * looked at. The calendar has no state.
+ * looked at. The calendar and ship lots have no state.
  *
  * Answers. Every call answers a struct by value. `accepted` is 1, or 0 for a refused call; `number` is then the reason
  * (GRAIN_REFUSED_...). The first that applies is answered, in the order of the numbers, 23 and 24 standing between 8 and 9,
@@ -20,20 +20,20 @@
  * take a day's number and do not look at the calendar.
  *
  * Pointers. A station or chart must not be NULL. Any other array may be NULL if its length is 0: a sheet without numbers is
- * refused by 4, a set without numbers by 20, an empty text by 16, and a buffer of length 0 by 22, each where no earlier
- * number applies; a list of holidays of length 0 says that there are none. Arrays handed to one call must not overlap each
- * other or the state (GRAIN_RESTRICT).
+ * refused by 4, a set without numbers by 20, an empty text by 16, a buffer of length 0 by 22, and a lot without records by
+ * 29, each where no earlier number applies; a list of holidays of length 0 says that there are none. Arrays handed to one
+ * call must not overlap each other or the state (GRAIN_RESTRICT).
  *
  * Threads. There is no global state, and nothing is allocated: calls on different stations and charts may run on any
- * threads at once. Calls on the same station or chart must not. Calendar calls only read: any number of them may run at
- * once, also over one list of holidays, as long as nobody writes to it. */
+ * threads at once. Calls on the same station or chart must not. The calls of the calendar and of ship lots only read: any
+ * number of them may run at once, also over one list, as long as nobody writes to it. */
 #ifndef GRAIN_H
 #define GRAIN_H
 
 #include <stddef.h>
 #include <stdint.h>
 
-#define GRAIN_VERSION "0.5.0"
+#define GRAIN_VERSION "0.6.0"
 
 /* Changes whenever struct grain_station or struct grain_chart does, or what their fields mean: a stored state of another
  * layout is not to be used before it is carried over.
@@ -205,6 +205,20 @@ struct grain_chart {
 #define GRAIN_SATURDAY 6
 #define GRAIN_SUNDAY 7
 
+/* ---- Ship lots ---- */
+
+/* The most records that a lot may have. */
+#define GRAIN_LOT_RECORDS 500
+
+/* A sublot as its record has it. Any numbers may stand here: those out of their bounds are refused by 30. Of a certificate
+ * take `converted` and `basis`, which belong together; of a refused one both are 0, which is within the bounds: look at its
+ * `accepted` first. */
+struct grain_sublot {
+    int32_t figure; /* as it was certified, tenths: 0 to 1000 */
+    int32_t basis;  /* the moisture basis that the figure stands at, hundredths: 0 to 5000 */
+    int32_t tonnes; /* 1 to 1000000 */
+};
+
 /* ---- Answers ---- */
 
 struct grain_answer {
@@ -271,6 +285,18 @@ struct grain_weekday {
     uint32_t weekday; /* GRAIN_MONDAY to GRAIN_SUNDAY */
 };
 
+/* The mean figure is the fraction weighted_sum over tonnes, in tenths, not reduced; `mean` is it rounded. Of a refused lot
+ * both are 0. */
+struct grain_lot {
+    uint32_t accepted, number;
+    int32_t basis;         /* that of every record, hundredths */
+    uint32_t lowest;       /* figure, tenths */
+    uint32_t highest;      /* figure, tenths */
+    uint32_t mean;         /* tenths; rounded once, an exact half going up */
+    uint64_t tonnes;       /* of all records; at most 500000000 */
+    uint64_t weighted_sum; /* of figure times tonnes; at most 500000000000 */
+};
+
 /* ---- Refusals ---- */
 
 /* Each number's sentence stands in grain_message below. */
@@ -303,6 +329,9 @@ struct grain_weekday {
 #define GRAIN_REFUSED_SHUT_LINE 26
 #define GRAIN_REFUSED_NO_SUCH_DAY 27
 #define GRAIN_REFUSED_HOLIDAYS 28
+#define GRAIN_REFUSED_LOT_SIZE 29
+#define GRAIN_REFUSED_SUBLOT 30
+#define GRAIN_REFUSED_UNLIKE_BASIS 31
 
 /* What is wrong, in a technician's words. */
 static inline const char *grain_message(uint32_t number)
@@ -372,6 +401,13 @@ static inline const char *grain_message(uint32_t number)
                "day 0, to 15 October 2273, day 99999";
     case GRAIN_REFUSED_HOLIDAYS:
         return "the holidays must be day numbers from 0 to 99999, each later than the one before it";
+    case GRAIN_REFUSED_LOT_SIZE:
+        return "a ship lot must have 1 to 500 sublot records";
+    case GRAIN_REFUSED_SUBLOT:
+        return "a sublot's record must have 1 to 1000000 tonnes, a figure of 0.0 to 100.0 percent and a moisture basis of "
+               "0.00 to 50.00 percent";
+    case GRAIN_REFUSED_UNLIKE_BASIS:
+        return "the sublots' figures do not all stand at one moisture basis; they are not converted";
     default:
         return "there is no refusal with this number";
     }
@@ -447,6 +483,16 @@ GRAIN_NODISCARD struct grain_day grain_working_day(uint32_t day, uint32_t count,
 /* The day by which monitoring results are due at the service point: 2 working days after the day of retrieval, which is not
  * counted. The same as grain_working_day with count 2, and refused alike. */
 GRAIN_NODISCARD struct grain_day grain_results_due(uint32_t day, const int32_t *holidays, size_t holidays_len);
+
+/* States a ship lot from its sublots' records: the lowest and the highest figure, the tonnes, and the tonnage-weighted
+ * mean, exactly and in tenths. A record of n tonnes counts as n records of one: the records' order makes no difference, nor
+ * does it whether a sublot stands in one record or in several of its figure and basis, as long as there are no more than
+ * 500 and none has more than 1000000 tonnes. The records are only read, and none is looked at where there are more than
+ * 500.
+ *
+ * Refused by 29 (no record or more than 500), then 30 (a record out of its bounds, wherever it stands), then 31 (the
+ * records' bases are not all equal). */
+GRAIN_NODISCARD struct grain_lot grain_ship_lot(const struct grain_sublot *records, size_t count);
 
 /* ---- Layout, as the library has it ---- */
 
@@ -531,6 +577,19 @@ GRAIN_SIZE(grain_weekday, 12);
 GRAIN_AT(grain_weekday, accepted, 0);
 GRAIN_AT(grain_weekday, number, 4);
 GRAIN_AT(grain_weekday, weekday, 8);
+GRAIN_SIZE(grain_sublot, 12);
+GRAIN_AT(grain_sublot, figure, 0);
+GRAIN_AT(grain_sublot, basis, 4);
+GRAIN_AT(grain_sublot, tonnes, 8);
+GRAIN_SIZE(grain_lot, 40);
+GRAIN_AT(grain_lot, accepted, 0);
+GRAIN_AT(grain_lot, number, 4);
+GRAIN_AT(grain_lot, basis, 8);
+GRAIN_AT(grain_lot, lowest, 12);
+GRAIN_AT(grain_lot, highest, 16);
+GRAIN_AT(grain_lot, mean, 20);
+GRAIN_AT(grain_lot, tonnes, 24);
+GRAIN_AT(grain_lot, weighted_sum, 32);
 
 #undef GRAIN_SIZE
 #undef GRAIN_AT

@@ -4,6 +4,8 @@
 //! `accepted` is 1 or 0, `number` the refusal's number (0 if accepted), then the values, which are 0
 //! where a call is refused; only a refused text carries its text line.
 
+pub use crate::lot::Sublot;
+
 /// Changes whenever [`Station`] or [`Chart`] does, or what their fields mean.
 pub const LAYOUT: u32 = 2;
 
@@ -166,11 +168,30 @@ pub struct Weekday {
     pub weekday: u32,
 }
 
-/// Checks a struct's size and the offset of each of its fields.
+/// A lot's basis in hundredths, lowest, highest and mean figure in tenths, tonnes, and the sum of figure
+/// times tonnes.
+#[repr(C)]
+#[derive(Clone, Copy, Debug, Default, PartialEq, Eq, Hash)]
+pub struct Lot {
+    pub accepted: u32,
+    pub number: u32,
+    pub basis: i32,
+    pub lowest: u32,
+    pub highest: u32,
+    pub mean: u32,
+    pub tonnes: u64,
+    pub weighted_sum: u64,
+}
+
+/// Checks a struct's size, its alignment (4 unless another is named) and the offset of each of its
+/// fields.
 macro_rules! layout {
-    ($type:ident: $size:literal, $($field:ident: $offset:literal),+) => {
+    ($type:ident: $size:literal, $($fields:tt)+) => {
+        layout!($type: $size by 4, $($fields)+);
+    };
+    ($type:ident: $size:literal by $align:expr, $($field:ident: $offset:literal),+) => {
         const _: () = assert!(size_of::<$type>() == $size);
-        const _: () = assert!(align_of::<$type>() == 4);
+        const _: () = assert!(align_of::<$type>() == $align);
         $(const _: () = assert!(std::mem::offset_of!($type, $field) == $offset);)+
     };
 }
@@ -196,6 +217,11 @@ layout!(Written: 16, accepted: 0, number: 4, line: 8, length: 12);
 layout!(Day: 12, accepted: 0, number: 4, day: 8);
 layout!(Date: 20, accepted: 0, number: 4, year: 8, month: 12, day: 16);
 layout!(Weekday: 12, accepted: 0, number: 4, weekday: 8);
+layout!(Sublot: 12, figure: 0, basis: 4, tonnes: 8);
+layout!(
+    Lot: 40 by align_of::<u64>(),
+    accepted: 0, number: 4, basis: 8, lowest: 12, highest: 16, mean: 20, tonnes: 24, weighted_sum: 32
+);
 
 impl PastSet {
     fn places(self) -> [i32; 3] {
@@ -367,4 +393,8 @@ unsafe extern "C" {
     /// # Safety
     /// `holidays` has `holidays_len` numbers (or is null and has none).
     pub fn grain_results_due(day: u32, holidays: *const i32, holidays_len: usize) -> Day;
+
+    /// # Safety
+    /// `records` has `count` records (or is null and has none).
+    pub fn grain_ship_lot(records: *const Sublot, count: usize) -> Lot;
 }

@@ -1,5 +1,5 @@
 //! Safe Rust types over the measuring core of a grain laboratory service: analyser readings,
-//! reference sheets and intercepts, market tests, control charts, a calendar.
+//! reference sheets and intercepts, market tests, control charts, a calendar, ship lots.
 //!
 //! A [`Station`] takes reference sheets, repairs and market tests; a [`Chart`] takes weekly sets of
 //! monitor samples; [`chart_text`] charts a whole text. A call answers its result or a [`Refusal`],
@@ -10,6 +10,8 @@
 //! count: [`day_from_date`] and [`date_from_day`] turn a [`Date`] into a day and back, day 0 being
 //! 1 January 2000; [`weekday`], [`working_day`] and [`results_due`] go on from a day.
 //!
+//! [`ship_lot`] states a lot from the records of its sublots.
+//!
 //! Stations and charts are plain numbers without pointers. `to_bytes` stores one with the number of
 //! its layout ([`LAYOUT`]) in front, `from_bytes` takes it up again; a station stored in layout 1 is
 //! carried over by [`Station::from_layout_1`]. They may go to any thread; a call borrows its own alone.
@@ -19,6 +21,7 @@
 mod calendar;
 mod chart;
 pub mod ffi;
+mod lot;
 mod refusal;
 mod station;
 mod store;
@@ -28,6 +31,7 @@ pub use calendar::{
 };
 pub use chart::{Chart, ChartValues, TextRefusal, chart_text, chart_text_into};
 pub use ffi::LAYOUT;
+pub use lot::{LOT_RECORDS, LotStatement, Sublot, ship_lot};
 pub use refusal::Refusal;
 pub use station::{
     Asked, Basis, Certificate, Line, LinePhase, Outcome, PastSet, Phase, Scan, Station, WheatClass,

@@ -80,10 +80,17 @@ pub enum Refusal {
     NoSuchDay = 27,
     /// The holidays don't rise strictly, or one lies outside 0 to 99999.
     Holidays = 28,
+    /// A lot has no record or more than 500.
+    LotSize = 29,
+    /// A record's tonnes lie outside 1 to 1000000, its figure outside 0 to 1000 tenths or its basis outside
+    /// 0 to 5000 hundredths.
+    Sublot = 30,
+    /// The records' bases are not all equal.
+    UnlikeBasis = 31,
 }
 
 /// Every refusal with its message, in the order of the numbers.
-const MESSAGES: [(Refusal, &str); 29] = [
+const MESSAGES: [(Refusal, &str); 32] = [
     (
         Refusal::Unsound,
         "the stored station or chart is damaged; restore it from a copy or open a new one",
@@ -209,10 +216,23 @@ const MESSAGES: [(Refusal, &str); 29] = [
         Refusal::Holidays,
         "the holidays must be day numbers from 0 to 99999, each later than the one before it",
     ),
+    (
+        Refusal::LotSize,
+        "a ship lot must have 1 to 500 sublot records",
+    ),
+    (
+        Refusal::Sublot,
+        "a sublot's record must have 1 to 1000000 tonnes, a figure of 0.0 to 100.0 percent and a \
+         moisture basis of 0.00 to 50.00 percent",
+    ),
+    (
+        Refusal::UnlikeBasis,
+        "the sublots' figures do not all stand at one moisture basis; they are not converted",
+    ),
 ];
 
 impl Refusal {
-    /// The refusals in the order of their numbers, 0 to 28.
+    /// The refusals in the order of their numbers, 0 to 31.
     pub fn all() -> impl Iterator<Item = Refusal> {
         MESSAGES.iter().map(|(refusal, _)| *refusal)
     }
@@ -223,7 +243,7 @@ impl Refusal {
         MESSAGES.get(place).map(|(refusal, _)| *refusal)
     }
 
-    /// The number, 0 to 28.
+    /// The number, 0 to 31.
     pub fn number(self) -> u8 {
         self as u8
     }

@@ -5,15 +5,15 @@ use std::path::Path;
 use std::process::Command;
 
 use grain::{
-    Asked, Basis, Chart, Date, LAST_DAY, LAYOUT, LinePhase, Outcome, Phase, Refusal, RestoreError,
-    Scan, Station, Weekday, WheatClass, chart_text, chart_text_into, date_from_day, day_from_date,
-    results_due, weekday, working_day,
+    Asked, Basis, Chart, Date, LAST_DAY, LAYOUT, LOT_RECORDS, LinePhase, LotStatement, Outcome,
+    Phase, Refusal, RestoreError, Scan, Station, Sublot, Weekday, WheatClass, chart_text,
+    chart_text_into, date_from_day, day_from_date, results_due, ship_lot, weekday, working_day,
 };
 
 #[test]
 fn every_refusal_has_its_number_and_message() {
     let all: Vec<Refusal> = Refusal::all().collect();
-    assert_eq!(all.len(), 29);
+    assert_eq!(all.len(), 32);
     for (number, refusal) in (0..).zip(&all) {
         assert_eq!(refusal.number(), number);
         assert_eq!(Refusal::of(number.into()), Some(*refusal));
@@ -24,23 +24,25 @@ fn every_refusal_has_its_number_and_message() {
         );
     }
     let messages: BTreeSet<&str> = all.iter().map(|refusal| refusal.message()).collect();
-    assert_eq!(messages.len(), 29);
+    assert_eq!(messages.len(), 32);
     assert!(messages.iter().all(|message| message.len() > 20));
-    for none in [29, 100, 256, u32::MAX] {
+    for none in [32, 100, 256, u32::MAX] {
         assert_eq!(Refusal::of(none), None);
     }
 }
 
-/// A C program that prints the header's version, layout, last day, weekdays and messages.
+/// A C program that prints the header's version, layout, last day, records of a lot, weekdays and
+/// messages.
 const SAYS: &str = r#"
 #include "grain.h"
 #include <stdio.h>
 int main(void)
 {
     printf("%s\n%d\n%d\n", GRAIN_VERSION, GRAIN_LAYOUT, GRAIN_LAST_DAY);
+    printf("%d\n", GRAIN_LOT_RECORDS);
     printf("%d %d %d ", GRAIN_MONDAY, GRAIN_TUESDAY, GRAIN_WEDNESDAY);
     printf("%d %d %d %d\n", GRAIN_THURSDAY, GRAIN_FRIDAY, GRAIN_SATURDAY, GRAIN_SUNDAY);
-    for (uint32_t number = 0; number < 30; number++)
+    for (uint32_t number = 0; number < 33; number++)
         printf("%s\n", grain_message(number));
     return 0;
 }
@@ -66,6 +68,7 @@ fn the_header_says_the_same() {
     assert_eq!(lines.next(), Some(env!("CARGO_PKG_VERSION")));
     assert_eq!(lines.next(), Some(LAYOUT.to_string().as_str()));
     assert_eq!(lines.next(), Some(LAST_DAY.to_string().as_str()));
+    assert_eq!(lines.next(), Some(LOT_RECORDS.to_string().as_str()));
     let weekdays = WEEK.map(|weekday| weekday.number().to_string());
     assert_eq!(lines.next(), Some(weekdays.join(" ").as_str()));
     for refusal in Refusal::all() {
@@ -102,7 +105,14 @@ fn the_header_has_the_limits() {
         rules.gluten_factor % 1000
     );
     let basis = format!("for wet gluten {}", rules.gluten_basis);
-    for said in [factor, basis] {
+    let lots = rules.lots;
+    let figure = format!("tenths: {} to {}", lots.figure.least, lots.figure.most);
+    let lot_basis = format!("hundredths: {} to {}", lots.basis.least, lots.basis.most);
+    let tonnes = format!("/* {} to {} */", lots.tonnes.least, lots.tonnes.most);
+    let most_tonnes = lots.records.most * lots.tonnes.most;
+    let all_tonnes = format!("at most {most_tonnes} */");
+    let sum = format!("at most {} */", most_tonnes * lots.figure.most);
+    for said in [factor, basis, figure, lot_basis, tonnes, all_tonnes, sum] {
         assert!(rows.iter().any(|row| row.contains(&said)), "{said}");
     }
     let names = [
@@ -539,4 +549,92 @@ fn a_sheet_has_a_date() {
     let day = day_from_date(entered).unwrap();
     station.sheet(day, 0, &sheet).unwrap();
     assert_eq!(date_from_day(station.day() as u32), Ok(entered));
+}
+
+/// A record of a lot at basis 1200.
+fn sublot(figure: i32, tonnes: i32) -> Sublot {
+    Sublot {
+        figure,
+        basis: 1200,
+        tonnes,
+    }
+}
+
+/// A sublot may stand in one record or in several, and these in any order.
+#[test]
+fn a_lot_in_any_records() {
+    let whole = [sublot(44, 11), sublot(45, 9), sublot(38, 1)];
+    let lot = ship_lot(&whole).unwrap();
+    let statement = LotStatement {
+        basis: 1200,
+        lowest: 38,
+        highest: 45,
+        mean: 44,
+        tonnes: 21,
+        weighted_sum: 927,
+    };
+    assert_eq!(lot, statement);
+    for order in ORDERS {
+        let records = order.map(|place| whole[place]);
+        assert_eq!(ship_lot(&records), Ok(lot), "{order:?}");
+        // 5 of the 11 tonnes at 44 in a record of their own.
+        let rest = records.map(|record| match record.figure {
+            44 => sublot(44, 6),
+            _ => record,
+        });
+        let parts = [&rest[..], &[sublot(44, 5)]].concat();
+        assert_eq!(ship_lot(&parts), Ok(lot), "{parts:?}");
+    }
+    let singles = [
+        vec![sublot(44, 1); 11],
+        vec![sublot(45, 1); 9],
+        vec![sublot(38, 1)],
+    ];
+    assert_eq!(ship_lot(&singles.concat()), Ok(lot));
+}
+
+#[test]
+fn the_largest_lot() {
+    let full = Sublot {
+        figure: 1000,
+        basis: 5000,
+        tonnes: 1_000_000,
+    };
+    let statement = LotStatement {
+        basis: 5000,
+        lowest: 1000,
+        highest: 1000,
+        mean: 1000,
+        tonnes: 500_000_000,
+        weighted_sum: 500_000_000_000,
+    };
+    assert_eq!(ship_lot(&[full; LOT_RECORDS]), Ok(statement));
+    let refused = ship_lot(&[full; LOT_RECORDS + 1]);
+    assert_eq!(refused, Err(Refusal::LotSize));
+}
+
+#[test]
+fn what_a_lot_refuses() {
+    let good = sublot(44, 11);
+    let at = |basis| Sublot { basis, ..good };
+    assert_eq!(ship_lot(&[]), Err(Refusal::LotSize));
+    for bad in [
+        sublot(-1, 11),
+        sublot(1001, 11),
+        at(-1),
+        at(5001),
+        sublot(44, 0),
+        sublot(44, -11),
+        sublot(44, 1_000_001),
+    ] {
+        let unlike = at(1350);
+        for records in [[bad, good, unlike], [good, unlike, bad], [bad, bad, bad]] {
+            assert_eq!(ship_lot(&records), Err(Refusal::Sublot), "{records:?}");
+        }
+        let many = [bad; LOT_RECORDS + 1];
+        assert_eq!(ship_lot(&many), Err(Refusal::LotSize), "{bad:?}");
+    }
+    for records in [[good, at(1201)], [at(1199), good], [at(0), at(5000)]] {
+        assert_eq!(ship_lot(&records), Err(Refusal::UnlikeBasis), "{records:?}");
+    }
 }

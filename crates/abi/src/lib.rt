@@ -6,4 +6,5 @@
 
 pub mod calendars;
 pub mod charts;
+pub mod lots;
 pub mod stations;

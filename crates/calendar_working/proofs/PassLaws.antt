@@ -10,7 +10,8 @@ use borrow.Author.Tests.{ltb-true, ltb-false, leb-true, leb-false, eqb-true, eqb
 use Rattle.std.proofs.lemmas.Bool.Decides.{nat_tests}
 use Rattle.whole.specs.Lists.{any}
 use Rattle.whole.proofs.ListLaws.{by_test}
-use Rattle.whole.proofs.Tests.{and_both, and_false, or_false, or_assoc}
+use Rattle.std.proofs.lemmas.List.Folds.{list_any-append}
+use Rattle.whole.proofs.Tests.{and_both, and_false, or_false}
 use Rattle.calendar_rules.specs.Working.{monday_to_friday, is_day, is_working}
 use Rattle.calendar_rules.specs.Laws.{up_to, WorkingDaysAfter}
 use Rattle.calendar_rules.proofs.WeekdayLaws.{five_of_seven}
@@ -25,8 +26,7 @@ and_or true false b = refl
 and_or false a b = refl
 
 any_more : (p : ℤ → Bool) (hs : List ℤ) (h : ℤ) → any p (hs ++ (h ∷ [])) ≡ any p hs || p h
-any_more p [] h = or_false (p h)
-any_more p (x ∷ hs) h = ap (λ (t : Bool). p x || t) (any_more p hs h) ∙ sym (or_assoc (p x) (any p hs) (p h))
+any_more p hs h = list_any-append p hs (h ∷ []) ∙ ap (λ (t : Bool). any p hs || t) (or_false (p h))
 
 one_more : (hs : List ℤ) (h x : ℕ) → is_working (hs ++ (pos h ∷ [])) x ≡ is_working hs x && not (eqb h x)
 unfolding is_working

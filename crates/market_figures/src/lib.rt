@@ -36,12 +36,12 @@ pub fn newest_day(past: &[PastSet]) -> u32
     }
 }
 
-// h in tenths, rounded once to the nearest, halves up.
+// h in tenths, as figures are reported.
 #[tactic(auto, unfolding(station_rules::specs::Markets::tenths))]
 pub fn in_tenths(h: u32) -> u32
     ensures { result ≡ tenths h }
 {
-    ((u64::from(h) + 5) / 10) as u32
+    whole::nearest_tenth(u64::from(h), 10) as u32
 }
 
 // A corrected value h, the standard basis A that it stands at and the basis B that it is asked at, in hundredths: in these ranges its conversion to B doesn't wrap.
@@ -62,12 +62,13 @@ impl Corrected {
         LARGEST * (WHOLE - self.standard) < self.value * (WHOLE - self.basis)
     }
 
-    // h times (10000 - B) / (10000 - A) in tenths, rounded once to the nearest, halves up.
+    // h times (10000 - B) / (10000 - A) in tenths, as figures are reported.
     #[tactic(auto, unfolding(station_rules::specs::Markets::tenths_at))]
     pub fn in_tenths_at_basis(self) -> u32
         ensures { result ≡ tenths_at self.standard self.basis self.value }
     {
-        (2 * self.value * (WHOLE - self.basis) + 10 * (WHOLE - self.standard))
-            / (20 * (WHOLE - self.standard))
+        let dividend = self.value * (WHOLE - self.basis);
+        let divisor = 10 * (WHOLE - self.standard);
+        whole::nearest_tenth(u64::from(dividend), u64::from(divisor)) as u32
     }
 }

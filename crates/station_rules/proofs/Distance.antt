@@ -1,7 +1,7 @@
 -- A certificate's figure at a basis lies within its distance of the exact value.
 use mathlib.Core.Path.{◌≡◌, ap, subst}
-use Prim.Native.Nat.{ℕ, ◌+◌, ◌-◌, ◌*◌, ◌/◌, ◌≤◌, ◌<◌}
-use native.Mathlib.Nat.{mul-le-mul_left, mul-le-mul_right, mul-one, div-add-mod', mod-lt}
+use Prim.Native.Nat.{ℕ, ◌+◌, ◌-◌, ◌*◌, ◌≤◌, ◌<◌}
+use native.Mathlib.Nat.{mul-le-mul_left, mul-le-mul_right, mul-one, le_of_lt, div-mul-le_self, lt-div-mul-add}
 use native.Mathlib.Omega.{arith}
 use lib.Dec.{lit<}
 use lib.IntN.{ℤ, pos, nat_abs, ◌+ℤ◌, ◌-ℤ◌, ◌*ℤ◌, one, *ℤ-one}
@@ -9,15 +9,9 @@ use lib.Ieee.{Float}
 use borrow.Author.Differences.{up, down}
 use Rattle.std.proofs.lemmas.Int.{ints}
 use Rattle.reading.specs.Reading.{unit, units_of, reading_of}
+use Rattle.whole.proofs.RoundLaws.{nearest_not_above, nearest_not_below}
 use Rattle.station_rules.specs.Markets.{derived_intercept, tenths, tenths_at}
 use Rattle.station_rules.specs.Demand3.{WithinDistance, WithinGluten}
-
--- ---- division: q * d ≤ n ≤ q * d + d
-pub div_below : (n d : ℕ) → n / d * d ≤ n
-div_below n d = omega (arith, div-add-mod' n d)
-
-pub div_above : (n d : ℕ) → 0 < d → n ≤ n / d * d + d
-div_above n d h = omega (arith, div-add-mod' n d, mod-lt n h)
 
 -- ---- the distance, where h is k and the sum of changes any integer
 module _ (D a b f k r u : ℕ) where
@@ -48,14 +42,14 @@ roundings : (x : Float) (a b k : ℕ) → 0 < 10000 - a
     → Roundings unit (10000 - a) (10000 - b) (tenths_at a b k) k (reading_of x) (units_of x)
 unfolding tenths_at reading_of
 roundings x a b k h =
-    let n = 2 * k * (10000 - b) + 10 * (10000 - a) in
-    let d = 20 * (10000 - a) in
+    let n = k * (10000 - b) in
+    let d = 10 * (10000 - a) in
     let w = 200 * units_of x + unit in
     record {
-      low = div_below n d;
-      high = div_above n d (omega arith);
-      read_low = div_below w (2 * unit);
-      read_high = div_above w (2 * unit) (lit< tt);
+      low = omega (arith, nearest_not_above n d);
+      high = omega (arith, nearest_not_below n d (omega arith));
+      read_low = div-mul-le_self w (2 * unit);
+      read_high = le_of_lt (lt-div-mul-add {a = w} {b = 2 * unit} (lit< tt));
     }
 
 pub within : (x : Float) (a b k : ℕ) (sum : ℤ) → 0 < 10000 - a → pos (reading_of x) +ℤ sum ≡ pos k → WithinDistance a b (tenths_at a b k) x sum
@@ -79,13 +73,11 @@ gluten_roundings : (x : Float) (k : ℕ) → Roundings unit 1 1 (tenths k) k (re
 unfolding tenths reading_of
 gluten_roundings x k =
     let w = 200 * units_of x + unit in
-    let low = div_below (k + 5) 10 in
-    let high = div_above (k + 5) 10 (lit< tt) in
     record {
-      low = omega (arith, low);
-      high = omega (arith, high);
-      read_low = div_below w (2 * unit);
-      read_high = div_above w (2 * unit) (lit< tt);
+      low = omega (arith, nearest_not_above k 10);
+      high = omega (arith, nearest_not_below k 10 (lit< tt));
+      read_low = div-mul-le_self w (2 * unit);
+      read_high = le_of_lt (lt-div-mul-add {a = w} {b = 2 * unit} (lit< tt));
     }
 
 pub within_gluten : (x : Float) (k : ℕ) (sum : ℤ) → pos (reading_of x) +ℤ derived_intercept sum ≡ pos k → WithinGluten (tenths k) x sum

@@ -12,7 +12,7 @@ use lib.Signed.{le_z}
 use Rattle.std.proofs.lemmas.Bool.{not-false, ltb-true, and_parts}
 use Rattle.std.proofs.lemmas.Int.{ints, by_lt_z}
 use Rattle.whole.specs.Lists.{Check}
-use Rattle.whole.specs.Rounding.{rounded_away}
+use Rattle.whole.specs.Rounding.{rounded_away, nearest_tenth}
 use Rattle.whole.proofs.RoundLaws.{rounded_below, rounded_above}
 use Rattle.reading.specs.Reading.{units_of, in_range, reading_of}
 use Rattle.station_rules.specs.Rows.{row_of, samples, standard_basis, line_count}
@@ -230,9 +230,9 @@ only_asked = record { gluten = only_gluten; wheat = only_wheat }
 -- ---- the cases
 
 pub gluten_cases_hold : map (λ (c : Case). c.gives) gluten_cases ≡ map (λ (c : Case). c.says) gluten_cases
-unfolding gluten_cases of_bits units_of in_range reading_of row_of samples standard_basis line_count scan_fits line_float brings_gluten gluten_float scan_serves asked_float rounded_away basis_from derived_intercept asked_intercept other_class other_basis corrected_value too_high tenths tenths_at market_checks certificate_of market_numbers sound_line sound market_of
+unfolding gluten_cases of_bits units_of in_range reading_of row_of samples standard_basis line_count scan_fits line_float brings_gluten gluten_float scan_serves asked_float rounded_away basis_from derived_intercept asked_intercept other_class other_basis corrected_value too_high tenths tenths_at nearest_tenth market_checks certificate_of market_numbers sound_line sound market_of
 gluten_cases_hold = refl
 
 pub gluten_reached : GlutenReached
-unfolding of_bits units_of in_range reading_of row_of samples standard_basis line_count scan_fits line_float brings_gluten gluten_float scan_serves asked_float rounded_away basis_from derived_intercept asked_intercept other_class other_basis corrected_value too_high tenths tenths_at market_checks certificate_of market_numbers sound_line sound market_of
+unfolding of_bits units_of in_range reading_of row_of samples standard_basis line_count scan_fits line_float brings_gluten gluten_float scan_serves asked_float rounded_away basis_from derived_intercept asked_intercept other_class other_basis corrected_value too_high tenths tenths_at nearest_tenth market_checks certificate_of market_numbers sound_line sound market_of
 gluten_reached = (refl, refl)

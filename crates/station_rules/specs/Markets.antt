@@ -1,8 +1,8 @@
 -- docs/SPECIFICATION.md, "Market test and moisture basis" and "Wet gluten": the corrected value, numbers 8 to 14 and 23 to 26, and the certificate.
-use Rattle.std.specs.Prelude.{ℕ, ◌+◌, ◌*◌, ◌-◌, ◌/◌, Bool, true, false, not, ◌&&◌, List, [], ◌∷◌, ltb, ℤ, pos, nat_abs, ◌+ℤ◌, ◌*ℤ◌}
+use Rattle.std.specs.Prelude.{ℕ, ◌+◌, ◌*◌, ◌-◌, Bool, true, false, not, ◌&&◌, List, [], ◌∷◌, ltb, ℤ, pos, nat_abs, ◌+ℤ◌, ◌*ℤ◌}
 use Rattle.std.specs.Int.Signed.{le_z}
 use Rattle.whole.specs.Lists.{Check}
-use Rattle.whole.specs.Rounding.{rounded_away}
+use Rattle.whole.specs.Rounding.{rounded_away, nearest_tenth}
 use Rattle.reading.specs.Reading.{reading_of, in_range}
 use Rattle.station_rules.specs.Rows.{standard_basis}
 use Rattle.station_rules.specs.Readings.{scan_serves, asked_float}
@@ -90,13 +90,13 @@ within low high z = le_z (pos low) z && le_z z (pos high)
 unfoldable pub too_high : (a b h : ℕ) → Bool
 too_high a b h = ltb (10000 * (10000 - a)) (h * (10000 - b))
 
--- h in tenths, rounded once to the nearest, halves up
+-- h in tenths, as figures are reported
 unfoldable pub tenths : ℕ → ℕ
-tenths h = (h + 5) / 10
+tenths h = nearest_tenth h 10
 
--- h times (10000 − B)/(10000 − A) in tenths, rounded once to the nearest, halves up
+-- h times (10000 − B)/(10000 − A) in tenths, as figures are reported: rounded once, and not from the figure of h
 unfoldable pub tenths_at : (a b h : ℕ) → ℕ
-tenths_at a b h = (2 * h * (10000 - b) + 10 * (10000 - a)) / (20 * (10000 - a))
+tenths_at a b h = nearest_tenth (h * (10000 - b)) (10 * (10000 - a))
 
 module _ (row : ℕ) (v : Values) (line : ℕ) (scan : Scan) (asked : Asked) (basis : Basis) where
   -- numbers 8, 23, 24, 9 to 12, 25, 26, 13 and 14, of a request on a day

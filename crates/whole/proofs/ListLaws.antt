@@ -10,7 +10,7 @@ use lib.Signed.{le_z, ◌≤ℤ◌}
 use borrow.Author.Differences.{up, down}
 use Rattle.std.specs.List.{All}
 use Rattle.std.proofs.lemmas.Int.{ints}
-use Rattle.std.proofs.lemmas.List.Elements.{All-head, All-tail}
+use Rattle.std.proofs.lemmas.List.Elements.{All-nil, All-cons, All-head, All-tail}
 use Rattle.whole.specs.Bounds.{Within}
 use Rattle.whole.specs.Lists.{differ, any, total, larger_of, smaller_of, largest, smallest}
 use Rattle.std.specs.List.{fold}
@@ -52,11 +52,11 @@ any_map p f (x ∷ l) = ap (λ (b : Bool). p (f x) || b) (any_map p f l)
 
 -- ---- the larger and the smaller of two, as omega reads them
 
-larger_is : (a b : ℤ) → up (larger_of a b) + down a + down b ≡ down (larger_of a b) + max (up a + down b) (up b + down a)
+pub larger_is : (a b : ℤ) → up (larger_of a b) + down a + down b ≡ down (larger_of a b) + max (up a + down b) (up b + down a)
 larger_is a b =
     by_test (le_z a b) (λ t. up (cond t b a) + down a + down b ≡ down (cond t b a) + max (up a + down b) (up b + down a)) (λ e. omega (arith, ints)) (λ e. omega (arith, ints))
 
-smaller_is : (a b : ℤ) → up (smaller_of a b) + down a + down b ≡ down (smaller_of a b) + min (up a + down b) (up b + down a)
+pub smaller_is : (a b : ℤ) → up (smaller_of a b) + down a + down b ≡ down (smaller_of a b) + min (up a + down b) (up b + down a)
 smaller_is a b =
     by_test (le_z a b) (λ t. up (cond t a b) + down a + down b ≡ down (cond t a b) + min (up a + down b) (up b + down a)) (λ e. omega (arith, ints)) (λ e. omega (arith, ints))
 
@@ -100,7 +100,7 @@ module _ (low high : ℕ) where
   largest_within (x ∷ y ∷ l) h =
       larger_keeps (Within low high) x (largest (y ∷ l)) (All-head (Within low high) x (y ∷ l) h) (largest_within (y ∷ l) (All-tail (Within low high) x (y ∷ l) h))
 
-  smallest_within : (l : List ℤ) → All (Within low high) l → Within low high (smallest l)
+  pub smallest_within : (l : List ℤ) → All (Within low high) l → Within low high (smallest l)
   smallest_within [] h = record { over = omega (arith, ints); under = omega (arith, ints) }
   smallest_within (x ∷ []) h = All-head (Within low high) x [] h
   smallest_within (x ∷ y ∷ l) h =
@@ -130,14 +130,14 @@ module _ (op : ℤ → ℤ → ℤ) (comm : (x y : ℤ) → op x y ≡ op y x) (
     joined x y [] = one (op x y) ∙ ap (op x) (sym (one y))
     joined x y (z ∷ l) = more (op x y) z l ∙ assoc x y (ext (z ∷ l)) ∙ ap (op x) (sym (more y z l))
 
+    again : (x : ℤ) (l : List ℤ) → op x (ext (x ∷ l)) ≡ ext (x ∷ l)
+    again x [] = ap (op x) (one x) ∙ same x ∙ sym (one x)
+    again x (y ∷ l) = ap (op x) (more x y l) ∙ sym (assoc x x (ext (y ∷ l))) ∙ ap (λ (z : ℤ). op z (ext (y ∷ l))) (same x) ∙ sym (more x y l)
+
     module _ {A : Type 0} (f : A → ℤ) where
       ext_from : (x : ℤ) (l : List A) → fold (λ (b : ℤ) (a : A). op b (f a)) x l ≡ ext (x ∷ map f l)
       ext_from x [] = sym (one x)
       ext_from x (a ∷ l) = ext_from (op x (f a)) l ∙ joined x (f a) (map f l) ∙ sym (more x (f a) (map f l))
-
-      again : (x : ℤ) (l : List ℤ) → op x (ext (x ∷ l)) ≡ ext (x ∷ l)
-      again x [] = ap (op x) (one x) ∙ same x ∙ sym (one x)
-      again x (y ∷ l) = ap (op x) (more x y l) ∙ sym (assoc x x (ext (y ∷ l))) ∙ ap (λ (z : ℤ). op z (ext (y ∷ l))) (same x) ∙ sym (more x y l)
 
       -- from the first of the list, over the whole list
       ext_fold : (d : A) (l : List A) → 0 < length l → fold (λ (b : ℤ) (a : A). op b (f a)) (f (get_or l 0 d)) l ≡ ext (map f l)
@@ -156,3 +156,36 @@ module _ {A : Type 0} (f : A → ℤ) where
 
   pub smallest_fold : (d : A) (l : List A) → 0 < length l → fold smaller_by (f (get_or l 0 d)) l ≡ smallest (map f l)
   smallest_fold d l h = ext_fold smaller_of smaller_comm smaller_swaps smaller_same smallest (λ x. refl) (λ x y l. refl) f d l h
+
+  -- from any number on
+  pub largest_from : (x : ℤ) (l : List A) → fold larger_by x l ≡ largest (x ∷ map f l)
+  largest_from = ext_from larger_of larger_comm larger_swaps larger_same largest (λ x. refl) (λ x y l. refl) f
+
+  pub smallest_from : (x : ℤ) (l : List A) → fold smaller_by x l ≡ smallest (x ∷ map f l)
+  smallest_from = ext_from smaller_of smaller_comm smaller_swaps smaller_same smallest (λ x. refl) (λ x y l. refl) f
+
+-- an element that is the largest, or the smallest, once more
+
+pub larger_again : (x : ℤ) (l : List ℤ) → larger_of x (largest (x ∷ l)) ≡ largest (x ∷ l)
+larger_again = again larger_of larger_comm larger_swaps larger_same largest (λ x. refl) (λ x y l. refl)
+
+pub smaller_again : (x : ℤ) (l : List ℤ) → smaller_of x (smallest (x ∷ l)) ≡ smallest (x ∷ l)
+smaller_again = again smaller_of smaller_comm smaller_swaps smaller_same smallest (λ x. refl) (λ x y l. refl)
+
+-- every element lies between them
+
+pub smallest_least : (l : List ℤ) → All (λ z. smallest l ≤ℤ z) l
+smallest_least [] = All-nil (λ z. smallest [] ≤ℤ z)
+smallest_least (x ∷ []) = All-cons (λ z. x ≤ℤ z) x [] (omega (arith, ints)) (All-nil (λ z. x ≤ℤ z))
+smallest_least (x ∷ y ∷ l) =
+    let s = smallest (y ∷ l) in
+    All-cons (λ z. smaller_of x s ≤ℤ z) x (y ∷ l) (omega (arith, ints, smaller_is x s))
+    (λ k d h. let q : s ≤ℤ get_or (y ∷ l) k d = smallest_least (y ∷ l) k d h in omega (arith, ints, q, smaller_is x s))
+
+pub largest_most : (l : List ℤ) → All (λ z. z ≤ℤ largest l) l
+largest_most [] = All-nil (λ z. z ≤ℤ largest [])
+largest_most (x ∷ []) = All-cons (λ z. z ≤ℤ x) x [] (omega (arith, ints)) (All-nil (λ z. z ≤ℤ x))
+largest_most (x ∷ y ∷ l) =
+    let s = largest (y ∷ l) in
+    All-cons (λ z. z ≤ℤ larger_of x s) x (y ∷ l) (omega (arith, ints, larger_is x s))
+    (λ k d h. let q : get_or (y ∷ l) k d ≤ℤ s = largest_most (y ∷ l) k d h in omega (arith, ints, q, larger_is x s))

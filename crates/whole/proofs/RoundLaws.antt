@@ -1,11 +1,15 @@
--- A rounded quotient by the sign of what is divided.
-use mathlib.Core.Path.{◌≡◌, refl}
-use Prim.Native.Nat.{ℕ, ◌+◌, ◌*◌, ◌/◌}
+-- A rounded quotient by the sign of what is divided; a figure rounded to the nearest tenth.
+use mathlib.Core.Path.{◌≡◌, refl, ◌∙◌, ap₂}
+use Prim.Native.Nat.{ℕ, ◌+◌, ◌*◌, ◌/◌, ◌≤◌, ◌<◌}
+use native.Mathlib.Nat.{mul_assoc, add-mul, mul-le-mul_right, mul-div-mul_right, div-mul-le_self, lt-div-mul-add}
 use native.Mathlib.Omega.{arith}
 use lib.IntN.{ℤ, pos, negsuc, neg_ℤ, nat_abs}
 use lib.Signed.{◌<ℤ◌, ◌≤ℤ◌}
 use Rattle.std.proofs.lemmas.Int.{ints}
-use Rattle.whole.specs.Rounding.{rounded_away}
+use lib.Dec.{leb}
+use borrow.Author.Tests.{leb-true, leb-false}
+use Rattle.whole.specs.Rounding.{rounded_away, nearest_tenth}
+use Rattle.whole.proofs.ListLaws.{by_test}
 
 pub rounded_below : (z : ℤ) (n : ℕ) → z <ℤ pos 0 → neg_ℤ (pos ((2 * nat_abs z + n) / (2 * n))) ≡ rounded_away z n
 unfolding rounded_away
@@ -16,3 +20,40 @@ pub rounded_above : (z : ℤ) (n : ℕ) → pos 0 ≤ℤ z → pos ((2 * nat_abs
 unfolding rounded_away
 rounded_above (pos m) n h = refl
 rounded_above (negsuc m) n h = absurd (omega (arith, ints))
+
+-- ---- the tenth nearest to n over d: at most half a tenth off, a half going up
+
+pub nearest_not_above : (n d : ℕ) → 2 * nearest_tenth n d * d ≤ 2 * n + d
+unfolding nearest_tenth
+nearest_not_above n d =
+    let q = (2 * n + d) / (2 * d) in
+    omega (arith, div-mul-le_self (2 * n + d) (2 * d), twice q d)
+  where
+    twice : (q d : ℕ) → q * (2 * d) ≡ 2 * q * d
+    twice q d = omega arith
+
+pub nearest_not_below : (n d : ℕ) → 0 < d → 2 * n < 2 * nearest_tenth n d * d + d
+unfolding nearest_tenth
+nearest_not_below n d h = omega (arith, lt-div-mul-add {a = 2 * n + d} {b = 2 * d} (omega arith))
+
+-- it lies between whole tenths that n over d lies between
+pub nearest_at_least : (n d low : ℕ) → 0 < d → low * d ≤ n → low ≤ nearest_tenth n d
+nearest_at_least n d low h l =
+    by_test (leb low (nearest_tenth n d)) (λ t. low ≤ nearest_tenth n d) (leb-true low (nearest_tenth n d))
+    (λ e. let q = mul-le-mul_right d (leb-false low (nearest_tenth n d) e) in absurd (omega (arith, q, nearest_not_below n d h)))
+
+pub nearest_at_most : (n d high : ℕ) → 0 < d → n ≤ high * d → nearest_tenth n d ≤ high
+nearest_at_most n d high h l =
+    by_test (leb (nearest_tenth n d) high) (λ t. nearest_tenth n d ≤ high) (leb-true (nearest_tenth n d) high)
+    (λ e. let q = mul-le-mul_right d (leb-false (nearest_tenth n d) high e) in absurd (omega (arith, q, nearest_not_above n d)))
+
+-- a factor of both changes nothing
+pub nearest_scaled : (n d w : ℕ) → 0 < w → nearest_tenth (n * w) (d * w) ≡ nearest_tenth n d
+unfolding nearest_tenth
+nearest_scaled n d w h = ap₂ ◌/◌ over under ∙ mul-div-mul_right (2 * n + d) (2 * d) h
+  where
+    over : 2 * (n * w) + d * w ≡ (2 * n + d) * w
+    over = omega (arith, add-mul (2 * n) d w, mul_assoc 2 n w)
+
+    under : 2 * (d * w) ≡ 2 * d * w
+    under = omega (arith, mul_assoc 2 d w)

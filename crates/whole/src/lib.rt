@@ -1,10 +1,10 @@
-// A quotient rounded to a whole number, and sets of three numbers held in the places of a state.
+// Quotients rounded to a whole number, and sets of three numbers held in the places of a state.
 
 #![tactic(auto)]
 
 ghost use Rattle.std.specs.Prelude.{◌≡◌, ◌+◌, ◌*◌, ◌≤◌, nat_abs};
 ghost use Rattle.whole.specs.Bounds.{Within};
-ghost use Rattle.whole.specs.Rounding.{rounded_away};
+ghost use Rattle.whole.specs.Rounding.{rounded_away, nearest_tenth};
 
 pub mod held;
 
@@ -15,4 +15,13 @@ pub fn rounded(dividend: i32, divisor: u32) -> i32
 {
     let quotient = ((2 * dividend.unsigned_abs() + divisor) / (2 * divisor)) as i32;
     if dividend < 0 { -quotient } else { quotient }
+}
+
+// A figure as it is reported: dividend / divisor tenths, rounded once to the nearest tenth, halves up.
+#[tactic(auto, unfolding(crate::specs::Rounding::nearest_tenth))]
+pub fn nearest_tenth(dividend: u64, divisor: u64) -> u64
+    requires { (dividend ≤ 1000000000000) × ((1 ≤ divisor) × (divisor ≤ 1000000000000)) }
+    ensures { (result ≡ nearest_tenth dividend divisor) × (result ≤ dividend) }
+{
+    (2 * dividend + divisor) / (2 * divisor)
 }

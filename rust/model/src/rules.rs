@@ -1,5 +1,5 @@
 //! The numbers that the rules compare with (sections "Product rows", "Control charts",
-//! "The calendar", "Refused calls"). They are passed to every rule, so that a comparison can show
+//! "The calendar", "Ship lots", "Refused calls"). They are passed to every rule, so that a comparison can show
 //! that it notices each of them being off by one.
 
 use crate::Refusal;
@@ -64,11 +64,32 @@ pub struct CalendarRules {
     pub due_days: i64,
 }
 
+/// The least and the most of a number that is not refused.
+#[derive(Clone, Copy, Debug)]
+pub struct Bounds {
+    pub least: i64,
+    pub most: i64,
+}
+
+/// Ship lots.
+#[derive(Clone, Debug)]
+pub struct LotRules {
+    /// Number 29: No record or more than 500.
+    pub records: Bounds,
+    /// Number 30: Tonnes outside 1..1000000 ..
+    pub tonnes: Bounds,
+    /// .. figure outside 0..1000 ..
+    pub figure: Bounds,
+    /// .. or basis outside 0..5000.
+    pub basis: Bounds,
+}
+
 #[derive(Clone, Debug)]
 pub struct Rules {
     pub products: Vec<Product>,
     pub charts: Vec<ChartRow>,
     pub calendar: CalendarRules,
+    pub lots: LotRules,
     /// Its day is 0..99999; number 2.
     pub last_day: i64,
     /// Past sets more than 14 days old are ignored.
@@ -107,6 +128,12 @@ pub struct Rules {
     pub line_bytes: i64,
 }
 
+impl Bounds {
+    pub fn outside(self, number: i64) -> bool {
+        number < self.least || number > self.most
+    }
+}
+
 impl Rules {
     /// The numbers as the rules have them.
     pub fn in_force() -> Rules {
@@ -136,6 +163,7 @@ impl Rules {
                 chart_row([20, 15, 10], [60, 45]), // soybean oil
             ],
             calendar: calendar_rules(),
+            lots: lot_rules(),
             last_day: 99_999,
             past_days: 14,
             newest_days: 7,
@@ -226,5 +254,15 @@ fn calendar_rules() -> CalendarRules {
         last_holiday: 99_999,
         working_weekdays: 5,
         due_days: 2,
+    }
+}
+
+fn lot_rules() -> LotRules {
+    let bounds = |least, most| Bounds { least, most };
+    LotRules {
+        records: bounds(1, 500),
+        tonnes: bounds(1, 1_000_000),
+        figure: bounds(0, 1_000),
+        basis: bounds(0, 5_000),
     }
 }

@@ -1,8 +1,11 @@
 //! Damaged models: each number of the rules off by one, models that tell the lines that aren't open
-//! wrongly, and wrong calendars.
+//! wrongly, wrong calendars, and lots stated wrongly.
 
-use grain_model::rules::CalendarRules;
-use grain_model::{Calendar, Line, LinePhase, Rules, Station, Verdict};
+use grain_model::lot::{bad_sublot, statement, unlike_basis};
+use grain_model::rules::{CalendarRules, LotRules};
+use grain_model::{
+    Calendar, Line, LinePhase, LotStatement, Rules, Station, Sublot, Verdict, ship_lot,
+};
 
 use crate::encode::{self, StationPlaces};
 use crate::markets;
@@ -61,6 +64,7 @@ pub fn numbers(rules: &mut Rules) -> Vec<(String, &mut i64)> {
     ];
     numbers.extend(single.map(|(name, number)| (name.to_string(), number)));
     numbers.extend(calendar_numbers(&mut rules.calendar));
+    numbers.extend(lot_numbers(&mut rules.lots));
     numbers
 }
 
@@ -83,6 +87,20 @@ fn calendar_numbers(rules: &mut CalendarRules) -> Vec<(String, &mut i64)> {
         ("due days", &mut rules.due_days),
     ];
     numbers.extend(single.map(|(name, number)| (name.to_string(), number)));
+    numbers
+}
+
+fn lot_numbers(rules: &mut LotRules) -> Vec<(String, &mut i64)> {
+    let mut numbers = Vec::new();
+    for (name, bounds) in [
+        ("records of a lot", &mut rules.records),
+        ("tonnes of a sublot", &mut rules.tonnes),
+        ("figure of a sublot", &mut rules.figure),
+        ("basis of a sublot", &mut rules.basis),
+    ] {
+        numbers.push((format!("least {name}"), &mut bounds.least));
+        numbers.push((format!("most {name}"), &mut bounds.most));
+    }
     numbers
 }
 
@@ -141,9 +159,43 @@ pub enum Wrong {
     UnseenBeyond,
     /// A holiday on a weekend moves the day found as well.
     WeekendHolidays,
+    /// 30 tried before 29.
+    SublotsBeforeSize,
+    /// 31 tried before 29.
+    BasisBeforeSize,
+    /// 31 tried before 30.
+    BasisBeforeSublots,
+    /// Record after record is tried for 30 and 31.
+    RecordByRecord,
+    /// A bad last record is not noticed.
+    LastRecordUnseen,
+    /// The last record's basis is not compared.
+    LastBasisUnseen,
+    /// The lowest figure of the first two records only.
+    LowestOfFirstTwo,
+    /// The highest figure of the last two records only.
+    HighestOfLastTwo,
+    /// The mean of the records' figures, whatever their tonnes.
+    NotWeighted,
+    /// The mean halfway between lowest and highest.
+    Midway,
+    /// The mean's tenth is cut off.
+    CutOff,
+    /// An exact half goes down.
+    HalvesDown,
+    /// An exact half goes to the even tenth.
+    HalvesToEven,
+    /// The mean is rounded to a hundredth of a percent, and that to a tenth.
+    RoundedTwice,
+    /// Sum and tonnes are reduced.
+    Reduced,
+    /// The sum is kept in 32 bits.
+    ShortSum,
+    /// Of several records with the same figure only the last counts.
+    FiguresOnce,
 }
 
-pub const WRONG: [Wrong; 20] = [
+pub const WRONG: [Wrong; 37] = [
     Wrong::OneNumber,
     Wrong::Exchanged,
     Wrong::BeforeCorrected,
@@ -164,6 +216,23 @@ pub const WRONG: [Wrong; 20] = [
     Wrong::UnseenAtZero,
     Wrong::UnseenBeyond,
     Wrong::WeekendHolidays,
+    Wrong::SublotsBeforeSize,
+    Wrong::BasisBeforeSize,
+    Wrong::BasisBeforeSublots,
+    Wrong::RecordByRecord,
+    Wrong::LastRecordUnseen,
+    Wrong::LastBasisUnseen,
+    Wrong::LowestOfFirstTwo,
+    Wrong::HighestOfLastTwo,
+    Wrong::NotWeighted,
+    Wrong::Midway,
+    Wrong::CutOff,
+    Wrong::HalvesDown,
+    Wrong::HalvesToEven,
+    Wrong::RoundedTwice,
+    Wrong::Reduced,
+    Wrong::ShortSum,
+    Wrong::FiguresOnce,
 ];
 
 impl Wrong {
@@ -275,6 +344,111 @@ impl Wrong {
             }
             _ => right,
         }
+    }
+
+    /// The answer in place of the right one to a lot.
+    pub fn ship_lot(self, rules: &Rules, records: &[Sublot]) -> Result<LotStatement, u8> {
+        match ship_lot(rules, records) {
+            Ok(right) => Ok(self.statement(records, right)),
+            Err(right) => self.refused_lot(rules, records, right),
+        }
+    }
+
+    fn refused_lot(self, rules: &Rules, records: &[Sublot], right: u8) -> Result<LotStatement, u8> {
+        let bad = |record: &Sublot| bad_sublot(&rules.lots, record);
+        let Some((_, but_last)) = records.split_last() else {
+            return Err(right);
+        };
+        match (self, right) {
+            (Wrong::SublotsBeforeSize, 29) if records.iter().any(bad) => Err(30),
+            (Wrong::BasisBeforeSize, 29) if unlike_basis(records) => Err(31),
+            (Wrong::BasisBeforeSublots, 30) if unlike_basis(records) => Err(31),
+            (Wrong::RecordByRecord, 30) => {
+                let first_bad = records.iter().position(bad).unwrap_or(0);
+                let unlike = unlike_basis(&records[..first_bad]);
+                Err(if unlike { 31 } else { 30 })
+            }
+            (Wrong::LastRecordUnseen, 30) => ship_lot(rules, but_last).map_err(|_| 30),
+            (Wrong::LastBasisUnseen, 31) if !unlike_basis(but_last) => Ok(statement(records)),
+            _ => Err(right),
+        }
+    }
+
+    fn statement(self, records: &[Sublot], right: LotStatement) -> LotStatement {
+        let lowest = |of: &[Sublot]| statement(of).lowest;
+        let highest = |of: &[Sublot]| statement(of).highest;
+        let count = records.len();
+        match self {
+            Wrong::LowestOfFirstTwo => LotStatement {
+                lowest: lowest(&records[..count.min(2)]),
+                ..right
+            },
+            Wrong::HighestOfLastTwo => LotStatement {
+                highest: highest(&records[count.saturating_sub(2)..]),
+                ..right
+            },
+            Wrong::Reduced => {
+                let divisor = common_divisor(right.weighted_sum, right.tonnes);
+                LotStatement {
+                    weighted_sum: right.weighted_sum / divisor,
+                    tonnes: right.tonnes / divisor,
+                    ..right
+                }
+            }
+            Wrong::ShortSum => LotStatement {
+                weighted_sum: right.weighted_sum & 0xFFFF_FFFF,
+                ..right
+            },
+            Wrong::FiguresOnce => statement(&figures_once(records)),
+            _ => LotStatement {
+                mean: self.mean(records, right),
+                ..right
+            },
+        }
+    }
+
+    /// The mean's tenth in place of the right one.
+    fn mean(self, records: &[Sublot], right: LotStatement) -> i64 {
+        let (sum, tonnes) = (right.weighted_sum, right.tonnes);
+        let half = 2 * sum == (2 * right.mean - 1) * tonnes;
+        match self {
+            Wrong::NotWeighted => {
+                let single = |record: &Sublot| Sublot {
+                    tonnes: 1,
+                    ..*record
+                };
+                let singles: Vec<Sublot> = records.iter().map(single).collect();
+                statement(&singles).mean
+            }
+            Wrong::Midway => (right.lowest + right.highest + 1) / 2,
+            Wrong::CutOff => sum / tonnes,
+            Wrong::HalvesDown if half => right.mean - 1,
+            Wrong::HalvesToEven if half && right.mean % 2 == 1 => right.mean - 1,
+            Wrong::RoundedTwice => {
+                let hundredths = (20 * sum + tonnes) / (2 * tonnes);
+                (hundredths + 5) / 10
+            }
+            _ => right.mean,
+        }
+    }
+}
+
+/// Of the records with one figure only the last.
+fn figures_once(records: &[Sublot]) -> Vec<Sublot> {
+    let mut kept: Vec<Sublot> = Vec::new();
+    for record in records.iter().rev() {
+        if kept.iter().all(|other| other.figure != record.figure) {
+            kept.push(*record);
+        }
+    }
+    kept
+}
+
+/// The greatest number that divides both.
+fn common_divisor(one: i64, other: i64) -> i64 {
+    match other {
+        0 => one,
+        _ => common_divisor(other, one % other),
     }
 }
 

@@ -4,6 +4,8 @@
 use std::fmt::Debug;
 use std::ptr;
 
+use grain::Sublot;
+
 use crate::rng::Rng;
 
 const GUARD: usize = 4;
@@ -40,6 +42,17 @@ impl Pattern for i32 {
 impl Pattern for u8 {
     fn pattern(rng: &mut Rng) -> u8 {
         rng.bits() as u8
+    }
+}
+
+impl Pattern for Sublot {
+    fn pattern(rng: &mut Rng) -> Sublot {
+        let [figure, basis, tonnes] = [(); 3].map(|()| i32::pattern(rng));
+        Sublot {
+            figure,
+            basis,
+            tonnes,
+        }
     }
 }
 

@@ -12,6 +12,7 @@ mod encode;
 mod history;
 mod lent;
 mod lists;
+mod lots;
 mod markets;
 mod met;
 mod orders;
@@ -31,7 +32,7 @@ use stations::Trial;
 /// How much is compared.
 struct Extent {
     station_lists: usize,
-    /// Each sheet also with its samples in another order.
+    /// Each sheet also with its samples in another order, each lot in other records too.
     orders: bool,
     chart_lists: usize,
     texts: usize,
@@ -43,6 +44,9 @@ struct Extent {
     working_days: usize,
     /// Holidays on all days, and on all but one.
     all_holidays: bool,
+    lots: usize,
+    /// Lots of far too many records.
+    long_lots: bool,
 }
 
 const FULL: Extent = Extent {
@@ -57,6 +61,8 @@ const FULL: Extent = Extent {
     calendar_step: 1,
     working_days: 100_000,
     all_holidays: true,
+    lots: 40_000,
+    long_lots: true,
 };
 
 /// Enough to notice any one number off by one.
@@ -72,6 +78,8 @@ const SMALL: Extent = Extent {
     calendar_step: 97,
     working_days: 1_000,
     all_holidays: false,
+    lots: 300,
+    long_lots: false,
 };
 
 /// Says something past the test harness's capture.
@@ -83,6 +91,7 @@ fn say(line: &str) {
 fn compare(trial: &mut Trial, extent: &Extent) -> Result<(), Difference> {
     trial.orders = extent.orders;
     compare_calendar(trial, extent)?;
+    compare_lots(trial, extent)?;
     lists::openings(trial)?;
     readings::sample(trial, extent.random_floats, extent.float_step)?;
     for _ in 0..extent.station_lists {
@@ -122,6 +131,17 @@ fn compare_calendar(trial: &mut Trial, extent: &Extent) -> Result<(), Difference
     }
     match extent.all_holidays {
         true => calendars::longest(trial),
+        false => Ok(()),
+    }
+}
+
+fn compare_lots(trial: &mut Trial, extent: &Extent) -> Result<(), Difference> {
+    lots::particular(trial)?;
+    for _ in 0..extent.lots {
+        lots::single(trial)?;
+    }
+    match extent.long_lots {
+        true => lots::longest(trial),
         false => Ok(()),
     }
 }

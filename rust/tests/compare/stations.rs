@@ -12,7 +12,8 @@ use crate::met::Met;
 use crate::rng::Rng;
 
 /// What all comparisons share: the model's numbers and its calendar, what is wrong with the model, if
-/// anything, the random generator, the counts, and whether sheets are also given in another order.
+/// anything, the random generator, the counts, and whether sheets and lots are also given in another
+/// order.
 pub struct Trial {
     pub rules: Rules,
     pub calendar: model::Calendar,

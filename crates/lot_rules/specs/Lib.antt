@@ -1,0 +1,3 @@
+pub mod Lots
+pub mod Laws
+pub mod Cases
