@@ -487,8 +487,7 @@ GRAIN_NODISCARD struct grain_day grain_results_due(uint32_t day, const int32_t *
 /* States a ship lot from its sublots' records: the lowest and the highest figure, the tonnes, and the tonnage-weighted
  * mean, exactly and in tenths. A record of n tonnes counts as n records of one: the records' order makes no difference, nor
  * does it whether a sublot stands in one record or in several of its figure and basis, as long as there are no more than
- * 500 and none has more than 1000000 tonnes. The records are only read, and none is looked at where there are more than
- * 500.
+ * 500 and none has more than 1000000 tonnes. The records are only read, 500 of them at most.
  *
  * Refused by 29 (no record or more than 500), then 30 (a record out of its bounds, wherever it stands), then 31 (the
  * records' bases are not all equal). */

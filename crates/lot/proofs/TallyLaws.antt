@@ -13,7 +13,7 @@ use Rattle.std.proofs.lemmas.Int.{ints}
 use Rattle.std.proofs.lemmas.List.{drop_more, drop_all}
 use Rattle.whole.specs.Lists.{any, larger_of, smaller_of, smallest, largest}
 use Rattle.whole.specs.Rounding.{nearest_tenth}
-use Rattle.whole.proofs.ListLaws.{by_test, larger_by, smaller_by, larger_is, smaller_is, largest_from, smallest_from}
+use Rattle.whole.proofs.ListLaws.{by_test, larger_is, smaller_is, largest_from, smallest_from}
 use Rattle.whole.proofs.Tests.{or_none, or_false}
 use Rattle.whole.proofs.RoundLaws.{nearest_at_most}
 use Rattle.lot_rules.specs.Lots.{singles_of, figure_of, basis_of, statement_of, bad_size, bad_sublot, unlike_basis, lot_checks, lot_of}
@@ -35,10 +35,10 @@ pub answer_from : Tally → List Sublot → Result Statement Refusal
 answer_from t [] = stated t
 answer_from t (r ∷ rs) = cond (bad_sublot r) (Err BadSublot) (answer_from (added t r) rs)
 
-lower : ℕ → Sublot → ℕ
+abbrev lower : ℕ → Sublot → ℕ
 lower b r = min b (nat_abs r.figure)
 
-higher : ℕ → Sublot → ℕ
+abbrev higher : ℕ → Sublot → ℕ
 higher b r = max b (nat_abs r.figure)
 
 -- a number out of its bounds, else what the whole tally states
@@ -58,7 +58,7 @@ tally_is : (t : Tally) (rs : List Sublot)
       tonnes = fold (λ n r. n + tonnes_in r) t.tonnes rs;
       weighted_sum = fold (λ n r. n + weight_of r) t.weighted_sum rs;
     }
-unfolding added lower higher
+unfolding added
 tally_is t [] = λ i. record {
   basis = t.basis;
   unlike = sym (or_false t.unlike) i;
@@ -80,42 +80,37 @@ tally_is t (r ∷ rs) =
 
 -- ---- the lowest and the highest
 
-lowest_from : (b : ℕ) (rs : List Sublot) → any bad_sublot rs ≡ false → pos (fold lower b rs) ≡ fold (smaller_by figure_of) (pos b) rs
-unfolding lower
-lowest_from b [] e = refl
-lowest_from b (r ∷ rs) e =
-    let t = or_none (bad_sublot r) (any bad_sublot rs) e in
-    let one : pos (min b (nat_abs r.figure)) ≡ smaller_of (pos b) r.figure = omega (arith, ints, smaller_is (pos b) r.figure, (good r t.0).figure.is) in
-    lowest_from (min b (nat_abs r.figure)) rs t.1 ∙ ap (λ (z : ℤ). fold (smaller_by figure_of) z rs) one
+-- stated once, for the lower of two and the higher: chosen among natural numbers as the tally has them, and among whole numbers as the rules do
+module _ (choose : ℕ → ℕ → ℕ) (op : ℤ → ℤ → ℤ) (agree : (b : ℕ) (z : ℤ) → pos (nat_abs z) ≡ z → pos (choose b (nat_abs z)) ≡ op (pos b) z)
+    (ext : List ℤ → ℤ) (from : (x : ℤ) (rs : List Sublot) → fold (λ (b : ℤ) (r : Sublot). op b (figure_of r)) x rs ≡ ext (x ∷ map figure_of rs)) where
+  abbrev chosen : ℕ → Sublot → ℕ
+  chosen b r = choose b (nat_abs r.figure)
 
-highest_from : (b : ℕ) (rs : List Sublot) → any bad_sublot rs ≡ false → pos (fold higher b rs) ≡ fold (larger_by figure_of) (pos b) rs
-unfolding higher
-highest_from b [] e = refl
-highest_from b (r ∷ rs) e =
-    let t = or_none (bad_sublot r) (any bad_sublot rs) e in
-    let one : pos (max b (nat_abs r.figure)) ≡ larger_of (pos b) r.figure = omega (arith, ints, larger_is (pos b) r.figure, (good r t.0).figure.is) in
-    highest_from (max b (nat_abs r.figure)) rs t.1 ∙ ap (λ (z : ℤ). fold (larger_by figure_of) z rs) one
+  abbrev in_rules : ℤ → List Sublot → ℤ
+  in_rules x rs = fold (λ (b : ℤ) (r : Sublot). op b (figure_of r)) x rs
 
--- the first record replaces what they start from
+  chosen_from : (b : ℕ) (rs : List Sublot) → any bad_sublot rs ≡ false → pos (fold chosen b rs) ≡ in_rules (pos b) rs
+  chosen_from b [] e = refl
+  chosen_from b (r ∷ rs) e =
+      let t = or_none (bad_sublot r) (any bad_sublot rs) e in
+      chosen_from (choose b (nat_abs r.figure)) rs t.1 ∙ ap (λ (z : ℤ). in_rules z rs) (agree b r.figure (good r t.0).figure.is)
+
+  -- the first record replaces what it starts from
+  chosen_all : (start : ℕ) (r : Sublot) (rs : List Sublot) → choose start (nat_abs r.figure) ≡ nat_abs r.figure → any bad_sublot (r ∷ rs) ≡ false
+      → fold chosen start (r ∷ rs) ≡ nat_abs (ext (map figure_of (r ∷ rs)))
+  chosen_all start r rs first e =
+      let t = or_none (bad_sublot r) (any bad_sublot rs) e in
+      ap nat_abs
+      (ap (λ (n : ℕ). pos (fold chosen n rs)) first ∙ chosen_from (nat_abs r.figure) rs t.1
+      ∙ ap (λ (z : ℤ). in_rules z rs) (good r t.0).figure.is ∙ from r.figure rs)
+
 lowest_all : (r : Sublot) (rs : List Sublot) → any bad_sublot (r ∷ rs) ≡ false → fold lower 1000 (r ∷ rs) ≡ nat_abs (smallest (map figure_of (r ∷ rs)))
-unfolding lower
 lowest_all r rs e =
-    let t = or_none (bad_sublot r) (any bad_sublot rs) e in
-    let f = (good r t.0).figure in
-    let first : min 1000 (nat_abs r.figure) ≡ nat_abs r.figure = omega (arith, f.most) in
-    ap nat_abs
-    (ap (λ (n : ℕ). pos (fold lower n rs)) first ∙ lowest_from (nat_abs r.figure) rs t.1
-    ∙ ap (λ (z : ℤ). fold (smaller_by figure_of) z rs) f.is ∙ smallest_from figure_of r.figure rs)
+    let f = (good r (or_none (bad_sublot r) (any bad_sublot rs) e).0).figure in
+    chosen_all min smaller_of (λ b z is. omega (arith, ints, smaller_is (pos b) z, is)) smallest (smallest_from figure_of) 1000 r rs (omega (arith, f.most)) e
 
 highest_all : (r : Sublot) (rs : List Sublot) → any bad_sublot (r ∷ rs) ≡ false → fold higher 0 (r ∷ rs) ≡ nat_abs (largest (map figure_of (r ∷ rs)))
-unfolding higher
-highest_all r rs e =
-    let t = or_none (bad_sublot r) (any bad_sublot rs) e in
-    let f = (good r t.0).figure in
-    let first : max 0 (nat_abs r.figure) ≡ nat_abs r.figure = omega arith in
-    ap nat_abs
-    (ap (λ (n : ℕ). pos (fold higher n rs)) first ∙ highest_from (nat_abs r.figure) rs t.1
-    ∙ ap (λ (z : ℤ). fold (larger_by figure_of) z rs) f.is ∙ largest_from figure_of r.figure rs)
+highest_all r rs e = chosen_all max larger_of (λ b z is. omega (arith, ints, larger_is (pos b) z, is)) largest (largest_from figure_of) 0 r rs (omega arith) e
 
 -- ---- the answer
 

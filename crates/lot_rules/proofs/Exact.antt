@@ -12,8 +12,8 @@ use Rattle.std.specs.List.{All, sum_by}
 use Rattle.std.specs.Prelude.{Ok, Err, IfOk}
 use Rattle.std.proofs.lemmas.Result.{IfOk-at_ok}
 use Rattle.std.proofs.lemmas.Int.{ints}
-use Rattle.std.proofs.lemmas.List.Sums.{sum_by-cons}
-use Rattle.std.proofs.lemmas.List.Elements.{All-cons, All-nil, All-head, All-tail}
+use Rattle.std.proofs.lemmas.List.Sums.{sum_by-cons, sum_by-le}
+use Rattle.std.proofs.lemmas.List.Elements.{All-cons, All-nil, All-head, All-tail, All-map, All-weaker}
 use Rattle.whole.specs.Bounds.{Within}
 use Rattle.whole.specs.Lists.{any, smallest, largest}
 use Rattle.whole.specs.Rounding.{nearest_tenth}
@@ -25,7 +25,7 @@ use Rattle.lot_rules.specs.Laws.{tonnes_in, weight_of, by_records, GoodLot, Mean
 use Rattle.lot_rules.specs.declared.Sublot.{Sublot}
 use Rattle.lot_rules.specs.declared.Statement.{Statement}
 use Rattle.lot_rules.specs.declared.Refusal.TheVariants.{LotSize, BadSublot, UnlikeBasis}
-use Rattle.lot_rules.proofs.Ranges.{good, sized, size_fits, bounds_of, none_bad}
+use Rattle.lot_rules.proofs.Ranges.{Good, good, all_good, sized, size_fits, bounds_of, none_bad}
 use Rattle.lot_rules.proofs.Singles.{count_is, sum_is, lowest_is, highest_is, first_tonne}
 use Rattle.lot_rules.proofs.Bases.{unlike_first, all_at, none_other}
 
@@ -62,41 +62,38 @@ accepted records e f g = let n = sized records e in record { some = n.0; few = n
 
 -- ---- sums, and the mean between lowest and highest
 
-module _ (low : ℕ) where
-  weigh_at_least : (records : List Sublot) → All (λ r. low ≤ nat_abs r.figure) records → low * sum_by tonnes_in records ≤ sum_by weight_of records
-  weigh_at_least [] h = omega arith
-  weigh_at_least (r ∷ rs) h =
-      let one = mul-le-mul_right (tonnes_in r) (All-head (λ (r : Sublot). low ≤ nat_abs r.figure) r rs h) in
-      let others = weigh_at_least rs (All-tail (λ (r : Sublot). low ≤ nat_abs r.figure) r rs h) in
-      omega (arith, one, others, ap (λ (n : ℕ). low * n) (sum_by-cons tonnes_in r rs), sum_by-cons weight_of r rs, mul-add low (tonnes_in r) (sum_by tonnes_in rs))
+-- terms that are no larger have a sum that is no larger
+sums_rise : (f g : Sublot → ℕ) (records : List Sublot) → All (λ r. f r ≤ g r) records → sum_by f records ≤ sum_by g records
+sums_rise f g [] h = omega arith
+sums_rise f g (r ∷ rs) h =
+    let one = All-head (λ (r : Sublot). f r ≤ g r) r rs h in
+    omega (arith, one, sums_rise f g rs (All-tail (λ (r : Sublot). f r ≤ g r) r rs h), sum_by-cons f r rs, sum_by-cons g r rs)
 
-module _ (high : ℕ) where
-  weigh_at_most : (records : List Sublot) → All (λ r. nat_abs r.figure ≤ high) records → sum_by weight_of records ≤ high * sum_by tonnes_in records
-  weigh_at_most [] h = omega arith
-  weigh_at_most (r ∷ rs) h =
-      let one = mul-le-mul_right (tonnes_in r) (All-head (λ (r : Sublot). nat_abs r.figure ≤ high) r rs h) in
-      let others = weigh_at_most rs (All-tail (λ (r : Sublot). nat_abs r.figure ≤ high) r rs h) in
-      omega (arith, one, others, ap (λ (n : ℕ). high * n) (sum_by-cons tonnes_in r rs), sum_by-cons weight_of r rs, mul-add high (tonnes_in r) (sum_by tonnes_in rs))
+-- one figure for all the tonnes
+at_one_figure : (figure : ℕ) (records : List Sublot) → sum_by (λ r. figure * tonnes_in r) records ≡ figure * sum_by tonnes_in records
+at_one_figure figure [] = omega arith
+at_one_figure figure (r ∷ rs) =
+    omega (arith, at_one_figure figure rs, sum_by-cons (λ r. figure * tonnes_in r) r rs, ap (λ (n : ℕ). figure * n) (sum_by-cons tonnes_in r rs), mul-add figure (tonnes_in r) (sum_by tonnes_in rs))
 
--- each record has from one tonne to a million
+-- each record has from one tonne to a million, and a figure of at most 1000
 tonnes_at_least : (records : List Sublot) → any bad_sublot records ≡ false → length records ≤ sum_by tonnes_in records
 tonnes_at_least [] e = omega arith
 tonnes_at_least (r ∷ rs) e =
     let t = or_none (bad_sublot r) (any bad_sublot rs) e in
     omega (arith, (good r t.0).tonnes.least, tonnes_at_least rs t.1, sum_by-cons tonnes_in r rs)
 
-tonnes_at_most : (records : List Sublot) → any bad_sublot records ≡ false → sum_by tonnes_in records ≤ 1000000 * length records
-tonnes_at_most [] e = omega arith
-tonnes_at_most (r ∷ rs) e =
-    let t = or_none (bad_sublot r) (any bad_sublot rs) e in
-    omega (arith, (good r t.0).tonnes.most, tonnes_at_most rs t.1, sum_by-cons tonnes_in r rs)
+tonnes_at_most : (records : List Sublot) → any bad_sublot records ≡ false → sum_by tonnes_in records ≤ length records * 1000000
+tonnes_at_most records e = sum_by-le tonnes_in 1000000 records (All-weaker Good (λ r. tonnes_in r ≤ 1000000) (λ r g. g.tonnes.most) records (all_good records e))
+
+weight_at_most : (records : List Sublot) → any bad_sublot records ≡ false → sum_by weight_of records ≤ 1000 * sum_by tonnes_in records
+weight_at_most records e =
+    let rise = sums_rise weight_of (λ r. 1000 * tonnes_in r) records (All-weaker Good (λ r. weight_of r ≤ 1000 * tonnes_in r) (λ r g. mul-le-mul_right (tonnes_in r) g.figure.most) records (all_good records e)) in
+    omega (arith, rise, at_one_figure 1000 records)
 
 figures_in : (records : List Sublot) → any bad_sublot records ≡ false → All (Within 0 1000) (map figure_of records)
-figures_in [] e = All-nil (Within 0 1000)
-figures_in (r ∷ rs) e =
-    let t = or_none (bad_sublot r) (any bad_sublot rs) e in
-    let f = (good r t.0).figure in
-    All-cons (Within 0 1000) r.figure (map figure_of rs) (record { over = omega (arith, ints, f.is); under = omega (arith, ints, f.is, f.most) }) (figures_in rs t.1)
+figures_in records e =
+    All-map (Within 0 1000) figure_of records
+    (All-weaker Good (λ r. Within 0 1000 r.figure) (λ r g. record { over = omega (arith, ints, g.figure.is); under = omega (arith, ints, g.figure.is, g.figure.most) }) records (all_good records e))
 
 -- what holds of the figures as whole numbers, said of their natural numbers
 of_figures : (P : ℤ → Type 0) (Q : ℕ → Type 0) → ((n : ℕ) → P (pos n) → Q n) → (records : List Sublot) → any bad_sublot records ≡ false
@@ -144,13 +141,15 @@ module _ (records : List Sublot) (a : Accepted records) where
 
   least : lowest * t ≤ w
   least =
-      weigh_at_least lowest records
-      (of_figures (λ z. smallest (map figure_of records) ≤ℤ z) (λ n. lowest ≤ n) (λ n h. omega (arith, ints, h, not_negative)) records a.good (smallest_least (map figure_of records)))
+      let each = of_figures (λ z. smallest (map figure_of records) ≤ℤ z) (λ n. lowest ≤ n) (λ n h. omega (arith, ints, h, not_negative)) records a.good (smallest_least (map figure_of records)) in
+      let rise = sums_rise (λ r. lowest * tonnes_in r) weight_of records (All-weaker (λ r. lowest ≤ nat_abs r.figure) (λ r. lowest * tonnes_in r ≤ weight_of r) (λ r h. mul-le-mul_right (tonnes_in r) h) records each) in
+      omega (arith, rise, at_one_figure lowest records)
 
   most : w ≤ highest * t
   most =
-      weigh_at_most highest records
-      (of_figures (λ z. z ≤ℤ largest (map figure_of records)) (λ n. n ≤ highest) (λ n h. omega (arith, ints, h)) records a.good (largest_most (map figure_of records)))
+      let each = of_figures (λ z. z ≤ℤ largest (map figure_of records)) (λ n. n ≤ highest) (λ n h. omega (arith, ints, h)) records a.good (largest_most (map figure_of records)) in
+      let rise = sums_rise weight_of (λ r. highest * tonnes_in r) records (All-weaker (λ r. nat_abs r.figure ≤ highest) (λ r. weight_of r ≤ highest * tonnes_in r) (λ r h. mul-le-mul_right (tonnes_in r) h) records each) in
+      omega (arith, rise, at_one_figure highest records)
 
   good_lot : GoodLot records (basis_of records)
   good_lot = record { size = (a.some, a.few); bounds = bounds_of records a.good; one_basis = bases records a.some a.alike }
@@ -171,7 +170,7 @@ module _ (records : List Sublot) (a : Accepted records) where
       record {
         some_tonnes = some;
         most_tonnes = omega (arith, a.few, tonnes_at_most records a.good);
-        most_weight = omega (arith, a.few, tonnes_at_most records a.good, weigh_at_most 1000 records (of_figures (Within 0 1000) (λ n. n ≤ 1000) (λ n w. omega (arith, ints, w.under)) records a.good (figures_in records a.good)));
+        most_weight = omega (arith, a.few, tonnes_at_most records a.good, weight_at_most records a.good);
       }
 
 -- ---- which lots are stated

@@ -12,7 +12,7 @@ use borrow.Author.Tests.{eqb-false, ltb-false, le-ltb}
 use Rattle.std.specs.List.{All}
 use Rattle.std.proofs.lemmas.Bool.Decides.{nat_tests}
 use Rattle.std.proofs.lemmas.Int.{ints}
-use Rattle.std.proofs.lemmas.List.Elements.{All-nil, All-cons, All-head, All-tail}
+use Rattle.std.proofs.lemmas.List.Elements.{All-nil, All-cons, All-head, All-tail, All-weaker}
 use Rattle.whole.specs.Lists.{any}
 use Rattle.whole.proofs.Tests.{or_none}
 use Rattle.lot_rules.specs.Lots.{outside, bad_size, bad_sublot}
@@ -63,21 +63,22 @@ good r e =
 
 -- ---- all records
 
+pub all_good : (records : List Sublot) → any bad_sublot records ≡ false → All Good records
+all_good [] e = All-nil Good
+all_good (r ∷ rs) e = let t = or_none (bad_sublot r) (any bad_sublot rs) e in All-cons Good r rs (good r t.0) (all_good rs t.1)
+
 within_bounds : (low high : ℕ) (z : ℤ) → InRange low high z → (pos low ≤ℤ z) × (z ≤ℤ pos high)
 within_bounds low high z g = (omega (arith, ints, g.is, g.least), omega (arith, ints, g.is, g.most))
 
 pub bounds_of : (records : List Sublot) → any bad_sublot records ≡ false → All InBounds records
-bounds_of [] e = All-nil InBounds
-bounds_of (r ∷ rs) e =
-    let t = or_none (bad_sublot r) (any bad_sublot rs) e in
-    let g = good r t.0 in
-    All-cons InBounds r rs
-    (record {
+bounds_of records e =
+    All-weaker Good InBounds
+    (λ r g. record {
       tonnes = within_bounds 1 1000000 r.tonnes g.tonnes;
       figure = within_bounds 0 1000 r.figure g.figure;
       basis = within_bounds 0 5000 r.basis g.basis;
     })
-    (bounds_of rs t.1)
+    records (all_good records e)
 
 pub none_bad : (records : List Sublot) → All InBounds records → any bad_sublot records ≡ false
 unfolding bad_sublot
