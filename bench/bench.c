@@ -1,6 +1,6 @@
 /* The core beside plain C: first both are given random and hostile calls, a sheet also with its samples in another order,
- * every day and date of the calendar, a ship lot also in other records, and every byte of their answers and states is
- * compared; then they are timed.
+ * chart sets at every limit of plots and beside it, every day and date of the calendar, a ship lot also in other records,
+ * and every byte of their answers and states is compared; then they are timed.
  *
  *     cc -O2 -Iinclude bench/bench.c bench/plain.c crates/abi/out/libabi.a -o target/bench
  *     target/bench          21 rounds after one to warm up
@@ -90,9 +90,9 @@ static float float_of(uint32_t word)
 static int32_t edge(void)
 {
     static const int32_t edges[] = {
-        INT32_MIN, -132001, -10001, -1001, -1000, -500,  -2,    -1,    0,     1,      2,      3,
-        4,         5,       6,      10,    12,    500,   1000,  1001,  1400,  5000,   5001,   9999,
-        10000,     10001,   20000,  20001, 50001, 65536, 99990, 99998, 99999, 100000, 132001, INT32_MAX,
+        INT32_MIN, -132001, -10001, -10000, -1001, -1000, -500,  -2,    -1,    0,      1,      2,
+        3,         4,       5,      6,      10,    12,    500,   1000,  1001,  1400,   5000,   5001,
+        9999,      10000,   10001,  20000,  20001, 65536, 99990, 99998, 99999, 100000, 132001, INT32_MAX,
     };
     return edges[bits() % (sizeof edges / sizeof edges[0])];
 }
@@ -139,16 +139,103 @@ static size_t put(uint8_t *text, size_t at, const char *line)
     return at + length;
 }
 
-/* A good text of at least so many bytes. */
-static size_t fill_text(uint8_t *text, size_t least)
+/* Of each chart row the absolute, the tolerance and the run limit of plots. */
+static const int32_t plot_limits[4][3] = {{20, 15, 10}, {25, 20, 10}, {25, 20, 15}, {20, 15, 10}};
+
+/* The plot whose sum with three held ones is four times the run limit or beside it. A damaged chart holds any. */
+static int64_t run_plot(const struct grain_chart *chart, int32_t limit)
 {
+    int left_out = chart->held == 4 ? range(0, 3) : 3;
+    int64_t sum = 4 * limit + range(-1, 1), three = 0;
+    for (int i = 0; i < 4; i++)
+        if (i != left_out)
+            three += chart->sets[i].plot;
+    return (three < 0 ? -sum : sum) - three;
+}
+
+/* A plot at a limit of the chart's row or beside it, or a small one; mostly on the side of the newest. */
+static int32_t some_plot(const struct grain_chart *chart)
+{
+    const int32_t *limits = plot_limits[(uint32_t)chart->row % 4];
+    int32_t side = (chart->sets[0].plot < 0) != one_in(8) ? -1 : 1;
+    int64_t run = side * run_plot(chart, limits[2]);
+    switch (range(0, 8)) {
+    case 0:
+        return side * (limits[0] + range(-1, 1));
+    case 1:
+    case 2:
+        return side * (limits[1] + range(-1, 1));
+    case 3:
+    case 4:
+    case 5:
+        return side * (run > 0 && run < 100 ? (int32_t)run : range(1, 3));
+    case 6:
+        return 0;
+    default:
+        return side * range(1, limits[2]);
+    }
+}
+
+/* A set of pairs that plots this. The monitors' mean lies anywhere; the originals' lies anywhere that is rounded to the
+ * hundredth it needs, from the half below, which goes up, to beside the half above. */
+static void fill_set(int32_t *numbers, int32_t pairs, int32_t plot)
+{
+    int32_t most = range(0, 45), originals = 0, monitors = 0;
+    for (int32_t i = 0; i < pairs; i++) {
+        int32_t *pair = numbers + 2 * i;
+        pair[1] = range(900, 1900);
+        pair[0] = pair[1] + range(-most, most);
+        originals += pair[0];
+        monitors += pair[1];
+    }
+    int32_t mean = (monitors + pairs / 2) / pairs + plot;
+    int32_t missing = pairs * mean + range(-(pairs / 2), (pairs - 1) / 2) - originals;
+    for (int32_t i = 0; i < pairs; i++)
+        numbers[2 * i] += missing / pairs;
+    numbers[0] += missing % pairs;
+}
+
+/* A set that aims at the chart's limits, or one of results at their bounds or one inside; answers its length. */
+static size_t aim_set(int32_t *numbers, const struct grain_chart *chart)
+{
+    int32_t pairs = one_in(3) ? 5 : range(1, 5);
+    if (one_in(40)) {
+        const int32_t least[2] = {one_in(2) ? 0 : 9999, one_in(2) ? 0 : 9999};
+        for (int32_t i = 0; i < 2 * pairs; i++)
+            numbers[i] = least[i % 2] + range(0, 1);
+    } else {
+        fill_set(numbers, pairs, some_plot(chart));
+    }
+    return (size_t)(2 * pairs);
+}
+
+/* Four or five pairs; answers the set's length. */
+static size_t any_set(int32_t *numbers)
+{
+    int32_t pairs = range(4, 5);
+    for (int32_t i = 0; i < pairs; i++) {
+        int32_t monitor = range(800, 1900);
+        numbers[2 * i] = monitor + range(-40, 40);
+        numbers[2 * i + 1] = monitor;
+    }
+    return (size_t)(2 * pairs);
+}
+
+/* A good text of at least so many bytes; its sets aim at the limits of the chart that they make, or are any. */
+static size_t fill_text(uint8_t *text, size_t least, bool aimed)
+{
+    struct grain_chart chart = {0};
     size_t at = put(text, 0, "week sample original monitor\n");
-    for (int week = 1; at < least; week++) {
-        int samples = range(4, 5);
-        for (int sample = 1; sample <= samples; sample++) {
+    for (uint32_t week = 1; at < least; week++) {
+        int32_t numbers[10];
+        size_t length = aimed ? aim_set(numbers, &chart) : any_set(numbers);
+        uint8_t charted[GRAIN_LINE_BYTES];
+        if (!plain.chart_set(&chart, week, numbers, length, charted, sizeof charted).accepted)
+            fail("a set of a text was refused");
+        for (size_t i = 0; i < length; i += 2) {
             char line[64];
-            int monitor = range(800, 1900);
-            snprintf(line, sizeof line, "%d %d %d %d\n", week, sample, monitor + range(-40, 40), monitor);
+            snprintf(line, sizeof line, "%" PRIu32 " %zu %" PRId32 " %" PRId32 "\n", week, i / 2 + 1, numbers[i],
+                     numbers[i + 1]);
             at = put(text, at, line);
         }
     }
@@ -162,6 +249,15 @@ enum { CALLS = 200000, TEXTS = 20000, GUARD = 16, KINDS = 14, NUMBERS = 32 };
 static uint64_t gluten_certified, compared, accepted[KINDS], refused[NUMBERS], moved_accepted, moved_refused[8];
 static uint64_t adjusted, shut_nothing_kept, shut_at_bound; /* lines, by sheets */
 static uint64_t lots_moved, lots_spelled_out, halves_up, largest_lots;
+/* sets by count of pairs, and by the remainders of the originals' and the monitors' sum by that count */
+static uint64_t means_met[6][5][5];
+/* by chart row, limit and side of zero: one below the limit, at it, one above */
+static uint64_t limits_met[4][3][2][3];
+/* sets that reach the absolute limit by the rounded average of their differences only, and by their plot only */
+static uint64_t average_only, plot_only;
+/* plots 0 of sums that are not 0, where their sum's side would make a run */
+static uint64_t on_no_side;
+static uint64_t largest_plots[2]; /* 10000 and -10000 */
 
 /* Counts an answer; its first two words are accepted and number. */
 static void count(int call, const void *answer)
@@ -411,6 +507,115 @@ static void compare_stations(void)
     }
 }
 
+static void compare_chart_open(struct guarded_chart *by_core, struct guarded_chart *by_plain)
+{
+    uint64_t row = some_row_or_line(3);
+    struct grain_answer one = core.chart_open(&by_core->chart, row);
+    struct grain_answer other = plain.chart_open(&by_plain->chart, row);
+    same("a chart opening's answer", &one, &other, sizeof one);
+    count(5, &one);
+}
+
+/* The sum of a chart's three largest plots on a side, turned above zero, or 0 where there are not three. */
+static int32_t three_on_side(const struct grain_chart *chart, int32_t side)
+{
+    int32_t found = 0, sum = 0, least = INT32_MAX;
+    for (int i = 0; i < chart->held; i++) {
+        int32_t plot = side * chart->sets[i].plot;
+        if (plot <= 0)
+            continue;
+        found++;
+        sum += plot;
+        if (plot < least)
+            least = plot;
+    }
+    return found < 3 ? 0 : found == 3 ? sum : sum - least;
+}
+
+static void count_beside(uint64_t *met, int32_t above)
+{
+    if (above >= -1 && above <= 1)
+        met[above + 1]++;
+}
+
+/* Counts a plot by what its row's limits judge: the plot, the smaller one of it and the last, and the largest sum of four.
+ * then: the chart before it. */
+static void count_plot(const struct grain_chart *then, int32_t plot)
+{
+    const int32_t *limits = plot_limits[then->row];
+    uint64_t(*met)[2][3] = limits_met[then->row];
+    for (int below = 0; below < 2; below++) {
+        int32_t side = below ? -1 : 1, own = side * plot, three = three_on_side(then, side);
+        int32_t last = then->held ? side * then->sets[0].plot : 0;
+        count_beside(met[0][below], own - limits[0]);
+        count_beside(met[1][below], (own < last ? own : last) - limits[1]);
+        if (own > 0 && three > 0)
+            count_beside(met[2][below], own + three - 4 * limits[2]);
+    }
+    largest_plots[plot < 0] += abs(plot) == 10000;
+}
+
+/* A set's week, numbers and room for its line. */
+struct set {
+    uint32_t week;
+    size_t length, room;
+    int32_t numbers[16];
+};
+
+/* Counts an accepted set by its sums and its plot. */
+static void count_set(const struct grain_chart *then, const struct set *set, int32_t plot)
+{
+    int32_t pairs = (int32_t)(set->length / 2), originals = 0, monitors = 0;
+    for (size_t i = 0; i < set->length; i += 2) {
+        originals += set->numbers[i];
+        monitors += set->numbers[i + 1];
+    }
+    means_met[pairs][originals % pairs][monitors % pairs]++;
+    int32_t sum = originals - monitors, absolute = plot_limits[then->row][0], run = plot_limits[then->row][2];
+    bool by_average = 2 * abs(sum) >= pairs * (2 * absolute - 1), by_plot = abs(plot) >= absolute;
+    average_only += by_average && !by_plot;
+    plot_only += by_plot && !by_average;
+    on_no_side += plot == 0 && sum != 0 && three_on_side(then, sum < 0 ? -1 : 1) > 4 * run;
+    count_plot(then, plot);
+}
+
+static struct grain_charted both_sets(struct guarded_chart *by_core, struct guarded_chart *by_plain, struct set set)
+{
+    struct set copy = set;
+    uint8_t line[80], line_copy[80];
+    fill(line, sizeof line);
+    memcpy(line_copy, line, sizeof line);
+    struct grain_charted one = core.chart_set(&by_core->chart, set.week, set.length ? set.numbers : NULL, set.length,
+                                              set.room ? line : NULL, set.room);
+    struct grain_charted other =
+        plain.chart_set(&by_plain->chart, copy.week, copy.numbers, copy.length, line_copy, copy.room);
+    same("a set's answer", &one, &other, sizeof one);
+    same("a set's numbers", set.numbers, copy.numbers, sizeof copy.numbers);
+    same("a set's line", line, line_copy, sizeof line);
+    same("a set's chart", by_core, by_plain, sizeof *by_core);
+    count(6, &one);
+    return one;
+}
+
+static void compare_set(struct guarded_chart *by_core, struct guarded_chart *by_plain)
+{
+    struct grain_chart then = by_core->chart;
+    struct set set = {0};
+    set.week = one_in(20) ? (uint32_t)edge() : (uint32_t)then.week + (uint32_t)range(0, 9);
+    set.length = aim_set(set.numbers, &then);
+    if (one_in(20)) {
+        int32_t *number = &set.numbers[bits() % set.length];
+        *number = edge();
+    }
+    if (one_in(20))
+        set.length = (size_t)range(0, 16);
+    set.room = one_in(10) ? (size_t)range(0, 39) : (size_t)range(40, 64);
+    struct grain_charted charted = both_sets(by_core, by_plain, set);
+    if (charted.accepted)
+        count_set(&then, &set, charted.plot);
+}
+
+/* Calls on a chart that goes on; damaged copies of it are dropped again. */
 static void compare_charts(void)
 {
     struct guarded_chart kept, by_core, by_plain;
@@ -420,42 +625,33 @@ static void compare_charts(void)
         damage(&by_core.chart, sizeof by_core.chart / 4);
         bool whole = memcmp(&by_core, &kept, sizeof kept) == 0;
         by_plain = by_core;
-        if (i % 200 == 0) {
-            uint64_t row = some_row_or_line(3);
-            struct grain_answer one = core.chart_open(&by_core.chart, row);
-            struct grain_answer other = plain.chart_open(&by_plain.chart, row);
-            same("a chart opening's answer", &one, &other, sizeof one);
-            count(5, &one);
-        } else {
-            uint32_t week = one_in(20) ? (uint32_t)edge() : (uint32_t)by_core.chart.week + (uint32_t)range(0, 9);
-            size_t pairs = one_in(2) ? 5 : (size_t)range(1, 5), length = 2 * pairs;
-            int32_t numbers[16] = {0}, copy[16], bias = range(-22, 22);
-            for (size_t j = 0; j < pairs; j++) {
-                numbers[2 * j + 1] = range(900, 1900);
-                numbers[2 * j] = numbers[2 * j + 1] + bias + range(-30, 30);
-            }
-            if (one_in(20)) {
-                int32_t *number = &numbers[bits() % length];
-                *number = edge();
-            }
-            if (one_in(20))
-                length = (size_t)range(0, 16);
-            uint8_t line[80], line_copy[80];
-            size_t room = one_in(10) ? (size_t)range(0, 39) : (size_t)range(40, 64);
-            fill(line, sizeof line);
-            memcpy(line_copy, line, sizeof line);
-            memcpy(copy, numbers, sizeof numbers);
-            struct grain_charted one =
-                core.chart_set(&by_core.chart, week, length ? numbers : NULL, length, room ? line : NULL, room);
-            struct grain_charted other = plain.chart_set(&by_plain.chart, week, copy, length, line_copy, room);
-            same("a set's answer", &one, &other, sizeof one);
-            same("a set's numbers", numbers, copy, sizeof numbers);
-            same("a set's line", line, line_copy, sizeof line);
-            count(6, &one);
-        }
+        if (i % 200 == 0)
+            compare_chart_open(&by_core, &by_plain);
+        else
+            compare_set(&by_core, &by_plain);
         same("a chart", &by_core, &by_plain, sizeof by_core);
         if (whole || one_in(100))
             kept = by_core;
+    }
+}
+
+/* A plot at its bound or one beyond, of every count and in every place of a chart whose other plots are the largest: it is
+ * refused by 0 where it is beyond and the place is in use. */
+static void compare_held_plots(void)
+{
+    static const struct grain_held_set largest = {.count = 1, .plot = 10000};
+    for (int i = 0; i < 5 * 4 * 5 * 4; i++) {
+        struct guarded_chart by_core, by_plain;
+        struct set set = {.week = 2, .length = 2, .room = GRAIN_LINE_BYTES, .numbers = {10000}};
+        int place = i / 5 % 4, beyond = i / 100 % 2;
+        fill(&by_core, sizeof by_core);
+        by_core.chart = (struct grain_chart){.week = 1, .held = i % 5, .sets = {largest, largest, largest, largest}};
+        by_core.chart.sets[place].count = 1 + i / 20 % 5;
+        by_core.chart.sets[place].plot = (i / 200 ? -1 : 1) * (10000 + beyond);
+        by_plain = by_core;
+        bool sound = !beyond || place >= by_core.chart.held;
+        if (both_sets(&by_core, &by_plain, set).accepted != sound)
+            fail("a held plot is refused at its bound or accepted beyond it");
     }
 }
 
@@ -464,7 +660,7 @@ static void compare_texts(void)
     static uint8_t text[70000], copy[70000], out[GRAIN_OUTPUT_BYTES], out_copy[GRAIN_OUTPUT_BYTES];
     for (int i = 0; i < TEXTS; i++) {
         bool large = one_in(500);
-        size_t length = fill_text(text, large ? 65400 : (size_t)range(29, 300)), room = large ? 400000 : 1600;
+        size_t length = fill_text(text, large ? 65400 : (size_t)range(29, 300), true), room = large ? 400000 : 1600;
         if (!one_in(3)) {
             uint8_t *byte = &text[bits() % length];
             *byte = (uint8_t) "0123456789 \n\r-x"[bits() % 15];
@@ -728,6 +924,29 @@ static void compare_lots(void)
     }
 }
 
+/* Sets lay at all places between two halves, at every limit and beside it, and where another rule of plots would judge
+ * otherwise. */
+static void plots_met(void)
+{
+    for (int pairs = 1; pairs <= 5; pairs++)
+        for (int i = 0; i < pairs * pairs; i++)
+            if (!means_met[pairs][i / pairs][i % pairs]) {
+                fprintf(stderr, "bench: no set of %d pairs had remainders %d and %d\n", pairs, i / pairs, i % pairs);
+                exit(1);
+            }
+    for (int i = 0; i < 4 * 3 * 2 * 3; i++) {
+        int row = i / 18, limit = i / 6 % 3, below = i / 3 % 2, above = i % 3;
+        if (!limits_met[row][limit][below][above]) {
+            fprintf(stderr, "bench: row %d, limit %d, side %d: nothing lay %d above\n", row, limit, below, above - 1);
+            exit(1);
+        }
+    }
+    if (!average_only || !plot_only)
+        fail("no set reached its limit by the rounded average of its differences only, or none by its plot only");
+    if (!on_no_side || !largest_plots[0] || !largest_plots[1])
+        fail("no plot 0 of another sum kept a run away, or none was 10000 or -10000");
+}
+
 /* Every call was accepted and every number met. */
 static void all_met(const char *const calls[KINDS])
 {
@@ -761,12 +980,14 @@ static void compare(void)
     compare_readings();
     compare_stations();
     compare_charts();
+    compare_held_plots();
     compare_texts();
     compare_dates();
     compare_working_days();
     uint64_t before_lots = compared;
     compare_lots();
     all_met(calls);
+    plots_met();
     uint64_t moved = moved_accepted;
     if (!moved_accepted)
         fail("no sheet was accepted in another order");
@@ -780,7 +1001,7 @@ static void compare(void)
            compared, moved, compared - before_lots);
     printf("of these %" PRIu64 " in another order and %" PRIu64 " in records of one tonne, no difference; ", lots_moved,
            lots_spelled_out);
-    printf("every refusal met; accepted:");
+    printf("every refusal and every chart limit met; accepted:");
     for (int i = 0; i < KINDS; i++)
         printf("%s %s %" PRIu64, i ? "," : "", calls[i], accepted[i]);
     printf("\n");
@@ -1046,7 +1267,7 @@ FOR_BOTH(sets_work)
 
 static void make_text(void)
 {
-    text_length = fill_text(the_text, 65400);
+    text_length = fill_text(the_text, 65400, false);
     if (text_length > GRAIN_TEXT_BYTES)
         fail("the text is too long");
 }

@@ -374,7 +374,7 @@ struct grain_outcome plain_sheet(struct grain_station *restrict station, uint32_
 /* ---- Charts ---- */
 
 struct chart_row {
-    int32_t absolute, tolerance, run; /* of the average */
+    int32_t absolute, tolerance, run; /* of the plotted average */
     int32_t range_absolute, range_tolerance;
 };
 
@@ -397,7 +397,7 @@ static bool sound_chart(const struct grain_chart *chart)
         const struct grain_held_set *set = &chart->sets[i];
         if (set->count < 1 || set->count > 5 || set->range < 0 || set->range > 20000)
             return false;
-        if (set->sum > 10000 * set->count || set->sum < -10000 * set->count)
+        if (set->plot < -10000 || set->plot > 10000)
             return false;
     }
     return true;
@@ -412,40 +412,48 @@ struct grain_answer plain_chart_open(struct grain_chart *chart, uint64_t row)
     return (struct grain_answer){.accepted = 1};
 }
 
+/* A mean of results, which are never negative, to the nearest hundredth: a half goes up. */
+static int32_t mean(int32_t sum, int32_t count)
+{
+    return (sum + count / 2) / count;
+}
+
 static struct grain_held_set set_of(const int32_t *numbers, size_t numbers_len)
 {
     struct grain_held_set set = {.count = (int32_t)(numbers_len / 2)};
-    int32_t least = INT32_MAX, most = INT32_MIN;
+    int32_t originals = 0, monitors = 0, least = INT32_MAX, most = INT32_MIN;
     for (size_t i = 0; i < numbers_len; i += 2) {
         int32_t difference = numbers[i] - numbers[i + 1];
-        set.sum += difference;
+        originals += numbers[i];
+        monitors += numbers[i + 1];
         if (difference < least)
             least = difference;
         if (difference > most)
             most = difference;
     }
+    set.plot = mean(originals, set.count) - mean(monitors, set.count);
     set.range = most - least;
     return set;
 }
 
-/* Three of the previous four (or of three) with this set: one side of zero, and a mean above the limit. A count divides
- * 60, so 60 times an average is a whole number. */
-static bool has_run(const struct grain_chart *chart, const struct grain_held_set *set, int32_t limit)
+/* Three of the previous four (or of three) with this plot: one side of zero, and their mean, which is not rounded, beyond
+ * the limit. */
+static bool has_run(const struct grain_chart *chart, int32_t plot, int32_t limit)
 {
     if (chart->held < 3)
         return false;
     for (int skip = chart->held == 3 ? 3 : 0; skip < 4; skip++) {
-        int up = set->sum > 0, down = set->sum < 0;
-        int32_t sixty = set->sum * (60 / set->count);
+        int up = plot > 0, down = plot < 0;
+        int32_t sum = plot;
         for (int i = 0; i < chart->held; i++) {
             if (i == skip)
                 continue;
-            const struct grain_held_set *past = &chart->sets[i];
-            up += past->sum > 0;
-            down += past->sum < 0;
-            sixty += past->sum * (60 / past->count);
+            int32_t past = chart->sets[i].plot;
+            up += past > 0;
+            down += past < 0;
+            sum += past;
         }
-        if ((up == 4 || down == 4) && abs(sixty) > 240 * limit)
+        if ((up == 4 || down == 4) && abs(sum) > 4 * limit)
             return true;
     }
     return false;
@@ -474,9 +482,9 @@ static uint32_t write_line(const struct grain_charted *charted, uint8_t *line)
     *at++ = ' ';
     at = put_number(at, charted->count);
     *at++ = ' ';
-    if (charted->sum < 0)
+    if (charted->plot < 0)
         *at++ = '-';
-    at = put_number(at, (uint32_t)abs(charted->sum));
+    at = put_number(at, (uint32_t)abs(charted->plot));
     *at++ = ' ';
     at = put_number(at, charted->range);
     for (int i = 0; i < 5; i++) {
@@ -491,7 +499,7 @@ static uint32_t write_line(const struct grain_charted *charted, uint8_t *line)
 {
     char text[64];
     int length = snprintf(text, sizeof text, "%u %u %d %u %u %u %u %u %u\n", charted->week, charted->count,
-                          charted->sum, charted->range, charted->al, charted->tl, charted->run, charted->ral,
+                          charted->plot, charted->range, charted->al, charted->tl, charted->run, charted->ral,
                           charted->rtl);
     memcpy(line, text, (size_t)length);
     return (uint32_t)length;
@@ -508,19 +516,18 @@ static struct grain_charted chart_numbers(struct grain_chart *chart, uint32_t we
     if (chart->held > 0) {
         const struct grain_held_set *last = &chart->sets[0];
         int32_t limit = row->tolerance;
-        tl = (set.sum >= limit * set.count && last->sum >= limit * last->count) ||
-             (set.sum <= -limit * set.count && last->sum <= -limit * last->count);
+        tl = (set.plot >= limit && last->plot >= limit) || (set.plot <= -limit && last->plot <= -limit);
         rtl = set.range >= row->range_tolerance && last->range >= row->range_tolerance;
     }
     struct grain_charted charted = {
         .accepted = 1,
         .week = week,
         .count = (uint32_t)set.count,
-        .sum = set.sum,
+        .plot = set.plot,
         .range = (uint32_t)set.range,
-        .al = abs(set.sum) >= row->absolute * set.count,
+        .al = abs(set.plot) >= row->absolute,
         .tl = tl,
-        .run = has_run(chart, &set, row->run),
+        .run = has_run(chart, set.plot, row->run),
         .ral = set.range >= row->range_absolute,
         .rtl = rtl,
     };
@@ -553,7 +560,7 @@ struct grain_charted plain_chart_set(struct grain_chart *restrict chart, uint32_
 /* ---- Texts ---- */
 
 static const char input_names[] = "week sample original monitor\n";
-static const char output_names[] = "week n sum range al tl run ral rtl\n";
+static const char output_names[] = "week n plot range al tl run ral rtl\n";
 
 enum { INPUT_NAMES = sizeof input_names - 1, OUTPUT_NAMES = sizeof output_names - 1 };
 

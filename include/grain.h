@@ -3,9 +3,9 @@
  *
  * State. A station and a chart are plain structs of int32_t in the caller's memory, opened by a call and then changed in
  * place. They hold no pointers: copy, store and compare them as you like, and store GRAIN_LAYOUT beside them. Whatever
- * comes back from storage may be handed in: a state with a field out of its bounds, or sheets out of the order of their
- * days, is refused by number 0. Lines that the row doesn't use and sets beyond `held` may hold anything; they are not
- * looked at. The calendar and ship lots have no state.
+ * comes back from storage under this layout's number may be handed in: a state with a field out of its bounds, or sheets
+ * out of the order of their days, is refused by number 0. Lines that the row doesn't use and sets beyond `held` may hold
+ * anything; they are not looked at. The calendar and ship lots have no state.
  *
  * Answers. Every call answers a struct by value. `accepted` is 1, or 0 for a refused call; `number` is then the reason
  * (GRAIN_REFUSED_...). The first that applies is answered, in the order of the numbers, 23 and 24 standing between 8 and 9,
@@ -33,17 +33,22 @@
 #include <stddef.h>
 #include <stdint.h>
 
-#define GRAIN_VERSION "0.6.0"
+#define GRAIN_VERSION "0.7.0"
 
 /* Changes whenever struct grain_station or struct grain_chart does, or what their fields mean: a stored state of another
  * layout is not to be used before it is carried over.
  *
- * From layout 1: sizes and places are the same, and charts are as they were. Of a line's phase 0 and 1 mean what they did.
- * 2 stood for every line whose check is due and now stands for an adjusted one: where the line was shut, that is where its
- * newest accepted sheet gave change 0, write GRAIN_SHUT. Where that is not known, leave 2: sheets and certificates are the
- * same either way, only 25 is told in place of 26. Layout 1 has no phase 3: a station with it is damaged, and its line
- * was not shut. */
-#define GRAIN_LAYOUT 2
+ * Charts of layouts 1 and 2: sizes and places are the same, but a held set had the sum of its differences where it has the
+ * plot now, and no plot can be computed from a sum. Open the chart's row anew and chart the sets of its newest four weeks
+ * again, in their order: that makes the chart that it would be. Number 0 does not tell such a chart, since most sums lie
+ * within the bounds of a plot: look at the number that you stored. A chart that holds no set may be used as it is.
+ *
+ * Stations of layout 2 are as they were. Stations of layout 1: sizes and places are the same, and of a line's phase 0 and 1
+ * mean what they did. 2 stood for every line whose check is due and now stands for an adjusted one: where the line was
+ * shut, that is where its newest accepted sheet gave change 0, write GRAIN_SHUT. Where that is not known, leave 2: sheets
+ * and certificates are the same either way, only 25 is told in place of 26. Layout 1 has no phase 3: a station with it is
+ * damaged, and its line was not shut. */
+#define GRAIN_LAYOUT 3
 
 #ifdef __cplusplus
 #define GRAIN_STATIC_ASSERT(test, text) static_assert(test, text)
@@ -168,10 +173,10 @@ struct grain_station {
 #define GRAIN_CHART_SOYBEAN_PROTEIN 2
 #define GRAIN_CHART_SOYBEAN_OIL 3
 
-/* A charted set. Its average is sum / count hundredths. */
+/* A charted set. */
 struct grain_held_set {
     int32_t count; /* pairs, 1 to 5 */
-    int32_t sum;   /* of original minus monitor, hundredths */
+    int32_t plot;  /* the plotted average: original mean minus monitor mean, each first rounded to a hundredth, halves up */
     int32_t range; /* largest minus smallest difference, hundredths */
 };
 
@@ -252,11 +257,11 @@ struct grain_charted {
     uint32_t accepted, number;
     uint32_t week;
     uint32_t count;  /* pairs */
-    int32_t sum;     /* of original minus monitor, hundredths */
+    int32_t plot;    /* the plotted average, hundredths */
     uint32_t range;  /* hundredths */
-    uint32_t al;     /* 1 or 0: the average is at or beyond the absolute limit */
-    uint32_t tl;     /* the average and the one before are at or beyond the tolerance limit, on one side */
-    uint32_t run;    /* this and three of the previous four averages: on one side, their mean beyond the run limit */
+    uint32_t al;     /* 1 or 0: the plot is at or beyond the absolute limit */
+    uint32_t tl;     /* the plot and the one before are at or beyond the tolerance limit, on one side */
+    uint32_t run;    /* this and three of the previous four plots: on one side of zero, their mean beyond the run limit */
     uint32_t ral;    /* the range is at or above its absolute limit */
     uint32_t rtl;    /* the range and the one before are at or above their tolerance limit */
     uint32_t length; /* of the output line, its line feed included */
@@ -445,7 +450,7 @@ GRAIN_NODISCARD struct grain_certificate grain_market(struct grain_station *stat
 GRAIN_NODISCARD struct grain_answer grain_chart_open(struct grain_chart *chart, uint64_t row);
 
 /* Charts a week's set. numbers: original and monitor of one to five pairs in turn, hundredths, 0 to 10000. The output line
- * (`26 5 -47 69 0 0 0 1 0` and a line feed, no NUL) is written from the start of line, and no byte after it.
+ * (`26 5 -9 69 0 0 0 1 0` and a line feed, no NUL) is written from the start of line, and no byte after it.
  * Refused by 0, 19 to 22. */
 GRAIN_NODISCARD struct grain_charted grain_chart_set(struct grain_chart *GRAIN_RESTRICT chart, uint32_t week,
                                                      const int32_t *GRAIN_RESTRICT numbers, size_t numbers_len,
@@ -515,7 +520,7 @@ GRAIN_AT(grain_station, day, 4);
 GRAIN_AT(grain_station, lines, 8);
 GRAIN_SIZE(grain_held_set, 12);
 GRAIN_AT(grain_held_set, count, 0);
-GRAIN_AT(grain_held_set, sum, 4);
+GRAIN_AT(grain_held_set, plot, 4);
 GRAIN_AT(grain_held_set, range, 8);
 GRAIN_SIZE(grain_chart, 60);
 GRAIN_AT(grain_chart, row, 0);
@@ -549,7 +554,7 @@ GRAIN_AT(grain_charted, accepted, 0);
 GRAIN_AT(grain_charted, number, 4);
 GRAIN_AT(grain_charted, week, 8);
 GRAIN_AT(grain_charted, count, 12);
-GRAIN_AT(grain_charted, sum, 16);
+GRAIN_AT(grain_charted, plot, 16);
 GRAIN_AT(grain_charted, range, 20);
 GRAIN_AT(grain_charted, al, 24);
 GRAIN_AT(grain_charted, tl, 28);

@@ -19,9 +19,10 @@ use crate::store::{self, RestoreError};
 /// let week_26 = [1315, 1307, 1018, 1054, 1447, 1479, 1256, 1223, 1857, 1877];
 /// let mut line = [0; Chart::LINE];
 /// let values = chart.set(26, &week_26, &mut line)?;
-/// assert_eq!((values.count, values.sum, values.range), (5, -47, 69));
+/// // The originals' mean is 1378.6 and the monitor's 1388.0: 1379 minus 1388 is plotted.
+/// assert_eq!((values.count, values.plot, values.range), (5, -9, 69));
 /// assert!(values.range_absolute && !values.average_absolute);
-/// assert_eq!(&line[..values.length], b"26 5 -47 69 0 0 0 1 0\n");
+/// assert_eq!(&line[..values.length], b"26 5 -9 69 0 0 0 1 0\n");
 /// # Ok::<(), grain::Refusal>(())
 /// ```
 #[derive(Clone, Debug, PartialEq, Eq, Hash)]
@@ -36,15 +37,17 @@ pub struct ChartValues {
     pub week: u32,
     /// The number of pairs.
     pub count: u32,
-    /// The sum of original minus monitor, in hundredths of a percent.
-    pub sum: i32,
+    /// The plotted average in hundredths of a percent: the original mean minus the monitor mean, each first
+    /// rounded to a hundredth, halves up.
+    pub plot: i32,
     /// The largest minus the smallest difference, in hundredths of a percent.
     pub range: u32,
-    /// The average is at or beyond the absolute limit.
+    /// The plot is at or beyond the absolute limit.
     pub average_absolute: bool,
-    /// The average and the one before are at or beyond the tolerance limit on one side.
+    /// The plot and the one before are at or beyond the tolerance limit on one side.
     pub average_tolerance: bool,
-    /// This and three of the previous four averages lie on one side, their mean beyond the run limit.
+    /// This and three of the previous four plots lie on one side of zero, their exact mean beyond the run
+    /// limit.
     pub run: bool,
     /// The range is at or above its absolute limit.
     pub range_absolute: bool,
@@ -105,30 +108,46 @@ impl Chart {
         store::stored(&self.places())
     }
 
-    /// Takes up a chart stored in layout 2, or in layout 1: charts are alike in both. Numbers that are
-    /// no sound chart are taken up as well, and refused by every call ([`Refusal::Unsound`]).
+    /// Takes up a chart stored in layout 3, or one without sets stored in layout 1 or 2. Numbers that are no
+    /// sound chart are taken up as well, and refused by every call ([`Refusal::Unsound`]).
+    ///
+    /// In layouts 1 and 2 a set holds the sum of its differences, from which no plot can be computed. A chart
+    /// with such sets is an error ([`RestoreError::ChartOfSums`]): open its row anew and chart the sets of its
+    /// newest four weeks again, in their order. That makes the chart that it would be.
     ///
     /// ```
     /// use grain::{Chart, RestoreError};
     ///
-    /// let chart = Chart::open(Chart::SOYBEAN_OIL).unwrap();
-    /// let bytes = chart.to_bytes();
+    /// let mut chart = Chart::open(Chart::SOYBEAN_OIL).unwrap();
+    /// chart.set(26, &[1900, 1885], &mut [0; Chart::LINE]).unwrap();
+    /// let mut bytes = chart.to_bytes();
     /// assert_eq!(Chart::from_bytes(&bytes)?, chart);
+    /// bytes[0] = 2;
+    /// let error = RestoreError::ChartOfSums { found: 2, row: 3 };
+    /// assert_eq!(Chart::from_bytes(&bytes), Err(error));
     /// # Ok::<(), RestoreError>(())
     /// ```
     pub fn from_bytes(bytes: &[u8]) -> Result<Chart, RestoreError> {
-        store::restored(bytes, &[store::FIRST, LAYOUT]).map(Chart::from_places)
+        let (found, places) = store::restored(bytes, &[store::FIRST, store::SECOND, LAYOUT])?;
+        let chart = Chart::from_places(places);
+        match (found, chart.state.held) {
+            (LAYOUT, _) | (_, 0) => Ok(chart),
+            _ => Err(RestoreError::ChartOfSums {
+                found,
+                row: chart.row(),
+            }),
+        }
     }
 
-    /// The chart of 15 numbers. Any may be given: what is no sound chart is refused by every call
-    /// ([`Refusal::Unsound`]).
+    /// The chart of 15 numbers of this layout. Any may be given: what is no sound chart is refused by every
+    /// call ([`Refusal::Unsound`]), but a sum of layout 1 or 2 is taken for a plot.
     pub fn from_places(places: [i32; ffi::CHART]) -> Chart {
         Chart {
             state: ffi::Chart::of(&places),
         }
     }
 
-    /// The chart's 15 numbers: row, last week, held, then four sets of count, sum and range.
+    /// The chart's 15 numbers: row, last week, held, then four sets of count, plot and range.
     pub fn places(&self) -> [i32; ffi::CHART] {
         self.state.places()
     }
@@ -179,7 +198,7 @@ impl Chart {
         Ok(ChartValues {
             week: said.week,
             count: said.count,
-            sum: said.sum,
+            plot: said.plot,
             range: said.range,
             average_absolute: said.al == 1,
             average_tolerance: said.tl == 1,
@@ -212,7 +231,7 @@ pub fn chart_text_into(text: &[u8], out: &mut [u8]) -> Result<usize, TextRefusal
 /// ```
 /// let text = b"week sample original monitor\n26 1 1315 1307\n26 2 1018 1054\n";
 /// let charted = grain::chart_text(text)?;
-/// assert_eq!(charted, b"week n sum range al tl run ral rtl\n26 2 -28 44 0 0 0 0 0\n");
+/// assert_eq!(charted, b"week n plot range al tl run ral rtl\n26 2 -14 44 0 0 0 0 0\n");
 /// # Ok::<(), grain::TextRefusal>(())
 /// ```
 pub fn chart_text(text: &[u8]) -> Result<Vec<u8>, TextRefusal> {

@@ -7,7 +7,7 @@
 pub use crate::lot::Sublot;
 
 /// Changes whenever [`Station`] or [`Chart`] does, or what their fields mean.
-pub const LAYOUT: u32 = 2;
+pub const LAYOUT: u32 = 3;
 
 /// Places (numbers) of a station.
 pub const STATION: usize = 47;
@@ -51,12 +51,12 @@ pub struct Station {
     pub lines: [Line; 3],
 }
 
-/// A charted set: pairs, sum and range of the differences in hundredths of a percent.
+/// A charted set: pairs, the plotted average and the range of the differences in hundredths of a percent.
 #[repr(C)]
 #[derive(Clone, Copy, Debug, Default, PartialEq, Eq, Hash)]
 pub struct HeldSet {
     pub count: i32,
-    pub sum: i32,
+    pub plot: i32,
     pub range: i32,
 }
 
@@ -119,7 +119,7 @@ pub struct Charted {
     pub number: u32,
     pub week: u32,
     pub count: u32,
-    pub sum: i32,
+    pub plot: i32,
     pub range: u32,
     pub al: u32,
     pub tl: u32,
@@ -199,7 +199,7 @@ macro_rules! layout {
 layout!(PastSet: 12, day: 0, sum: 4, count: 8);
 layout!(Line: 60, intercept: 0, phase: 4, held: 8, past: 12);
 layout!(Station: 188, row: 0, day: 4, lines: 8);
-layout!(HeldSet: 12, count: 0, sum: 4, range: 8);
+layout!(HeldSet: 12, count: 0, plot: 4, range: 8);
 layout!(Chart: 60, row: 0, week: 4, held: 8, sets: 12);
 layout!(Answer: 8, accepted: 0, number: 4);
 layout!(Value: 12, accepted: 0, number: 4, hundredths: 8);
@@ -210,7 +210,7 @@ layout!(
 );
 layout!(
     Charted: 48,
-    accepted: 0, number: 4, week: 8, count: 12, sum: 16, range: 20,
+    accepted: 0, number: 4, week: 8, count: 12, plot: 16, range: 20,
     al: 24, tl: 28, run: 32, ral: 36, rtl: 40, length: 44
 );
 layout!(Written: 16, accepted: 0, number: 4, line: 8, length: 12);
@@ -239,13 +239,13 @@ impl PastSet {
 
 impl HeldSet {
     fn places(self) -> [i32; 3] {
-        [self.count, self.sum, self.range]
+        [self.count, self.plot, self.range]
     }
 
     fn of(places: &[i32]) -> HeldSet {
         HeldSet {
             count: places[0],
-            sum: places[1],
+            plot: places[1],
             range: places[2],
         }
     }

@@ -13,8 +13,9 @@
 //! [`ship_lot`] states a lot from the records of its sublots.
 //!
 //! Stations and charts are plain numbers without pointers. `to_bytes` stores one with the number of
-//! its layout ([`LAYOUT`]) in front, `from_bytes` takes it up again; a station stored in layout 1 is
-//! carried over by [`Station::from_layout_1`]. They may go to any thread; a call borrows its own alone.
+//! its layout ([`LAYOUT`]) in front, `from_bytes` takes it up again. A station stored in layout 2 is taken
+//! up as it is, one stored in layout 1 is carried over by [`Station::from_layout_1`]; a chart with sets
+//! stored in either has to be charted anew ([`RestoreError::ChartOfSums`]). They may go to any thread; a call borrows its own alone.
 
 #![deny(unsafe_op_in_unsafe_fn)]
 

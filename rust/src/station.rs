@@ -193,7 +193,7 @@ impl LinePhase {
         }
     }
 
-    /// The place of layout 2 for one of layout 1, which has 2 for every line whose check is due. Its 3 is
+    /// The place of this layout for one of layout 1, which has 2 for every line whose check is due. Its 3 is
     /// no phase and stays none.
     fn carried_over(place: i32, shut: bool) -> i32 {
         match (place, shut) {
@@ -271,8 +271,8 @@ impl Station {
         store::stored(&self.places())
     }
 
-    /// Takes up a station stored in layout 2. Numbers that are no sound station are taken up as well, and
-    /// refused by every call ([`Refusal::Unsound`]).
+    /// Takes up a station stored in layout 3, or in layout 2: stations are alike in both. Numbers that are no
+    /// sound station are taken up as well, and refused by every call ([`Refusal::Unsound`]).
     ///
     /// ```
     /// use grain::{RestoreError, Station};
@@ -283,7 +283,8 @@ impl Station {
     /// # Ok::<(), RestoreError>(())
     /// ```
     pub fn from_bytes(bytes: &[u8]) -> Result<Station, RestoreError> {
-        store::restored(bytes, &[LAYOUT]).map(Station::from_places)
+        let (_, places) = store::restored(bytes, &[store::SECOND, LAYOUT])?;
+        Ok(Station::from_places(places))
     }
 
     /// Takes up a station stored in layout 1, where a line whose check is due doesn't tell whether it was
@@ -312,7 +313,8 @@ impl Station {
     /// # Ok::<(), RestoreError>(())
     /// ```
     pub fn from_layout_1(bytes: &[u8], shut: [bool; 3]) -> Result<Station, RestoreError> {
-        let mut station = Station::from_places(store::restored(bytes, &[store::FIRST])?);
+        let (_, places) = store::restored(bytes, &[store::FIRST])?;
+        let mut station = Station::from_places(places);
         for (line, shut) in station.state.lines.iter_mut().zip(shut) {
             line.phase = LinePhase::carried_over(line.phase, shut);
         }

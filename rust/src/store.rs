@@ -5,8 +5,12 @@ use std::fmt;
 
 use crate::ffi::LAYOUT;
 
-/// The layout before this one. Its places are the same, and only a line's phase means another thing.
+/// The first layout. Its places are the same, but a line's phase means another thing, and a chart holds sums
+/// where it holds plots now.
 pub(crate) const FIRST: u32 = 1;
+/// The layout before this one. Its places are the same, stations are too, and a chart holds sums as in the
+/// first.
+pub(crate) const SECOND: u32 = 2;
 
 /// Why stored bytes are not taken up as a station or chart.
 ///
@@ -16,16 +20,21 @@ pub(crate) const FIRST: u32 = 1;
 /// let mut bytes = Station::open(Station::WHEAT).unwrap().to_bytes();
 /// let error = Station::from_bytes(&bytes[..190]).unwrap_err();
 /// assert_eq!(error.to_string(), "190 bytes are stored where 192 belong");
-/// bytes[0] = 3;
+/// bytes[0] = 4;
 /// let error = Station::from_bytes(&bytes).unwrap_err();
-/// assert_eq!(error, RestoreError::Layout { found: 3 });
-/// assert_eq!(error.to_string(), "stored in layout 3, which this version (layout 2) does not read");
+/// assert_eq!(error, RestoreError::Layout { found: 4 });
+/// assert_eq!(error.to_string(), "stored in layout 4, which this version (layout 3) does not read");
 /// ```
 #[derive(Clone, Copy, Debug, PartialEq, Eq, Hash)]
 pub enum RestoreError {
     /// The bytes begin with the number of a layout that the call doesn't read. 1: a station of an
     /// earlier version, which [`Station::from_layout_1`](crate::Station::from_layout_1) carries over.
+    /// 2 or 3, handed to that call: a station of which nothing is to be carried over.
     Layout { found: u32 },
+    /// The bytes are a chart of this row stored in layout 1 or 2. Its sets hold sums of differences, from
+    /// which no plot can be computed: open the row anew and chart the sets of the newest four weeks again,
+    /// in their order.
+    ChartOfSums { found: u32, row: i32 },
     /// The bytes are too few or too many.
     Length { found: usize, needed: usize },
 }
@@ -37,13 +46,22 @@ impl fmt::Display for RestoreError {
                 f,
                 "a station stored in layout {FIRST} is taken up by `Station::from_layout_1`"
             ),
-            RestoreError::Layout { found: LAYOUT } => write!(
+            RestoreError::Layout {
+                found: found @ (SECOND | LAYOUT),
+            } => write!(
                 f,
-                "stored in layout {LAYOUT}, this version's own: nothing is to be carried over"
+                "a station stored in layout {found} is taken up by `Station::from_bytes`: nothing is to \
+                 be carried over"
             ),
             RestoreError::Layout { found } => write!(
                 f,
                 "stored in layout {found}, which this version (layout {LAYOUT}) does not read"
+            ),
+            RestoreError::ChartOfSums { found, row } => write!(
+                f,
+                "a chart stored in layout {found} holds sums of differences, from which no plot can be \
+                 computed: open its row {row} anew and chart the sets of its newest four weeks again, in \
+                 their order"
             ),
             RestoreError::Length { found, needed } => {
                 write!(f, "{found} bytes are stored where {needed} belong")
@@ -65,12 +83,12 @@ pub(crate) fn stored<const BYTES: usize>(places: &[i32]) -> [u8; BYTES] {
     bytes
 }
 
-/// Reads the places of a state stored in one of these layouts. Another layout is told before a wrong
-/// length: its states may be longer or shorter.
+/// Reads the places of a state stored in one of these layouts, and tells in which. Another layout is told
+/// before a wrong length: its states may be longer or shorter.
 pub(crate) fn restored<const PLACES: usize>(
     bytes: &[u8],
     layouts: &[u32],
-) -> Result<[i32; PLACES], RestoreError> {
+) -> Result<(u32, [i32; PLACES]), RestoreError> {
     let length = RestoreError::Length {
         found: bytes.len(),
         needed: 4 + 4 * PLACES,
@@ -87,5 +105,5 @@ pub(crate) fn restored<const PLACES: usize>(
     for (place, bytes) in places.iter_mut().zip(rest.chunks_exact(4)) {
         *place = i32::from_le_bytes([bytes[0], bytes[1], bytes[2], bytes[3]]);
     }
-    Ok(places)
+    Ok((found, places))
 }

@@ -194,16 +194,16 @@ fn other_bytes_are_not_restored() {
     }
     let text = RestoreError::Layout { found: 9 }.to_string();
     assert!(
-        text.contains("layout 9") && text.contains("layout 2"),
+        text.contains("layout 9") && text.contains("layout 3"),
         "{text}"
     );
     let text = length(64, 192).to_string();
     assert!(text.contains("64") && text.contains("192"), "{text}");
 }
 
-/// Stored places as layout 1 has them.
-fn in_layout_1(places: &[i32]) -> Vec<u8> {
-    let numbers = [&[1], places].concat();
+/// Stored places as a layout before this one has them.
+fn in_layout(layout: i32, places: &[i32]) -> Vec<u8> {
+    let numbers = [&[layout], places].concat();
     numbers
         .iter()
         .flat_map(|number| number.to_le_bytes())
@@ -239,10 +239,29 @@ fn a_station_of_layout_1_is_carried_over() {
                     other => other,
                 };
             }
-            let station = Station::from_layout_1(&in_layout_1(&stored), shut).unwrap();
+            let station = Station::from_layout_1(&in_layout(1, &stored), shut).unwrap();
             assert_eq!(station.places(), expected, "{phases:?} {shut:?}");
         }
     }
+}
+
+/// Stations are alike in layouts 2 and 3.
+#[test]
+fn a_station_of_layout_2_is_read() {
+    let bytes = in_layout(2, &counted::<47>());
+    let station = Station::from_bytes(&bytes).unwrap();
+    assert_eq!(station.places(), counted());
+    // Stored now it is of this layout.
+    let stored = station.to_bytes();
+    assert_eq!(
+        (&stored[..4], &stored[4..]),
+        (&[3, 0, 0, 0][..], &bytes[4..])
+    );
+    let length = RestoreError::Length {
+        found: 100,
+        needed: 192,
+    };
+    assert_eq!(Station::from_bytes(&bytes[..100]), Err(length));
 }
 
 /// A station of layout 1 goes on, and its lines tell what they are told to have been.
@@ -252,7 +271,7 @@ fn a_station_of_layout_1_goes_on() {
     places[1] = 5;
     places[PHASES[0]] = 2;
     places[PHASES[1]] = 2;
-    let bytes = in_layout_1(&places);
+    let bytes = in_layout(1, &places);
     let mut station = Station::from_layout_1(&bytes, [false, true, true]).unwrap();
     let scan = Scan::Corn {
         protein: 8.5,
@@ -279,7 +298,7 @@ fn a_damaged_station_of_layout_1_is_refused() {
     let mut places = Station::open(Station::WHEAT).unwrap().places();
     places[PHASES[0]] = 3;
     for shut in [false, true] {
-        let mut station = Station::from_layout_1(&in_layout_1(&places), [shut; 3]).unwrap();
+        let mut station = Station::from_layout_1(&in_layout(1, &places), [shut; 3]).unwrap();
         assert_eq!(station.line(0), None);
         assert_eq!(station.repair(1), Err(Refusal::Unsound));
     }
@@ -287,14 +306,14 @@ fn a_damaged_station_of_layout_1_is_refused() {
 
 #[test]
 fn other_bytes_are_not_carried_over() {
-    let bytes = in_layout_1(&Station::open(Station::WHEAT).unwrap().places());
+    let bytes = in_layout(1, &Station::open(Station::WHEAT).unwrap().places());
     let read = |bytes: &[u8]| Station::from_layout_1(bytes, [false; 3]);
     assert!(read(&bytes).is_ok());
     for found in [0, 3, 4, 191] {
         let length = RestoreError::Length { found, needed: 192 };
         assert_eq!(read(&bytes[..found]), Err(length));
     }
-    for found in [0, LAYOUT, LAYOUT + 1, u32::MAX] {
+    for found in [0, 2, LAYOUT, LAYOUT + 1, u32::MAX] {
         let mut other = bytes.clone();
         other[..4].copy_from_slice(&found.to_le_bytes());
         assert_eq!(read(&other), Err(RestoreError::Layout { found }));
@@ -302,23 +321,120 @@ fn other_bytes_are_not_carried_over() {
     // Each message is true of the call that gives it.
     let text = |found| RestoreError::Layout { found }.to_string();
     assert!(text(1).contains("`Station::from_layout_1`"), "{}", text(1));
-    let own = text(LAYOUT);
-    assert!(own.contains("nothing is to be carried over"), "{own}");
+    for found in [2, LAYOUT] {
+        let text = text(found);
+        assert!(text.contains(&format!("layout {found}")), "{text}");
+        assert!(text.contains("`Station::from_bytes`"), "{text}");
+        assert!(text.contains("nothing is to be carried over"), "{text}");
+    }
 }
 
-/// Charts are alike in layouts 1 and 2.
+/// Charts of layouts 1 and 2 hold sums: they are not read unless they hold no set, and the error says
+/// what to do.
 #[test]
-fn a_chart_of_layout_1_is_read() {
-    let bytes = in_layout_1(&counted::<15>());
-    let chart = Chart::from_places(counted());
-    assert_eq!(Chart::from_bytes(&bytes), Ok(chart.clone()));
-    assert_eq!(Chart::from_bytes(&chart.to_bytes()), Ok(chart));
+fn a_chart_of_sums_is_not_read() {
+    let fresh = Chart::open(Chart::BARLEY_PROTEIN).unwrap();
+    for found in [1, 2] {
+        let bytes = in_layout(found as i32, &fresh.places());
+        assert_eq!(Chart::from_bytes(&bytes).as_ref(), Ok(&fresh));
+        let row = counted::<15>()[0];
+        let error = RestoreError::ChartOfSums { found, row };
+        for held in [1, 4, 5, -1, i32::MIN] {
+            let mut places = counted::<15>();
+            places[2] = held;
+            let bytes = in_layout(found as i32, &places);
+            assert_eq!(Chart::from_bytes(&bytes), Err(error));
+        }
+        let text = error.to_string();
+        let layout = format!("layout {found}");
+        for said in [
+            &layout,
+            "a chart",
+            "sums",
+            &format!("open its row {row} anew"),
+            "newest four weeks",
+        ] {
+            assert!(text.contains(said), "{text}");
+        }
+        // Charts had this length then, too: a station is none.
+        let station = in_layout(found as i32, &counted::<47>());
+        for (bytes, found) in [(&station[..], 192), (&station[..60], 60)] {
+            let length = RestoreError::Length { found, needed: 64 };
+            assert_eq!(Chart::from_bytes(bytes), Err(length));
+        }
+    }
     for found in [0, LAYOUT + 1, u32::MAX] {
-        let mut other = bytes.clone();
+        let mut other = fresh.to_bytes();
         other[..4].copy_from_slice(&found.to_le_bytes());
+        let error = Err(RestoreError::Layout { found });
+        assert_eq!(Chart::from_bytes(&other), error);
+        assert_eq!(Chart::from_bytes(&other[..50]), error);
+    }
+}
+
+/// Sets of seven weeks, with one to five pairs.
+const WEEKS: [&[i32]; 7] = [
+    &[1315, 1307, 1018, 1054, 1447, 1479, 1256, 1223, 1857, 1877],
+    &[1039, 1000, 1000, 1000],
+    &[961, 1000, 1000, 1000],
+    &[1212, 1200],
+    &[1003, 1000, 1000, 1001, 1000, 1001, 1001, 1000],
+    &[1500, 1488, 1500, 1489, 1500, 1490],
+    &[1300, 1289],
+];
+
+/// A chart with these weeks' sets on it.
+fn with_weeks(sets: &[(u32, &[i32])]) -> Chart {
+    let mut chart = Chart::open(Chart::WHEAT_PROTEIN).unwrap();
+    for (week, numbers) in sets {
+        chart.set(*week, numbers, &mut [0; Chart::LINE]).unwrap();
+    }
+    chart
+}
+
+/// The line that the header's text shows is that of week 26.
+#[test]
+fn the_header_shows_a_line() {
+    let header = Path::new(env!("CARGO_MANIFEST_DIR")).join("../include/grain.h");
+    let header = std::fs::read_to_string(header).unwrap();
+    let mut chart = Chart::open(Chart::WHEAT_PROTEIN).unwrap();
+    let mut line = [0; Chart::LINE];
+    let values = chart.set(26, WEEKS[0], &mut line).unwrap();
+    let line = std::str::from_utf8(&line[..values.length]).unwrap();
+    assert_eq!(line, "26 5 -9 69 0 0 0 1 0\n");
+    assert!(header.contains(&format!("`{}`", line.trim_end())));
+}
+
+/// A held set has count, plot and range.
+#[test]
+fn a_stored_chart_goes_on() {
+    let weeks: Vec<_> = (26..).zip(WEEKS).collect();
+    let mut chart = with_weeks(&weeks[..3]);
+    let places = [0, 28, 3, 2, -19, 39, 2, 20, 39, 5, -9, 69, 0, 0, 0];
+    assert_eq!(chart.places(), places);
+    let mut again = Chart::from_bytes(&chart.to_bytes()).unwrap();
+    assert_eq!(again, chart);
+    let set = |chart: &mut Chart| chart.set(29, WEEKS[3], &mut [0; Chart::LINE]);
+    assert_eq!(set(&mut again), set(&mut chart));
+    assert_eq!(again, chart);
+}
+
+/// On the row opened anew the sets of the newest four weeks make the same chart, so that one of sums can
+/// be charted again.
+#[test]
+fn the_newest_four_weeks_make_the_chart() {
+    let weeks: Vec<_> = (26..).zip(WEEKS).collect();
+    for count in 5..=weeks.len() {
+        let charted = &weeks[..count];
         assert_eq!(
-            Chart::from_bytes(&other),
-            Err(RestoreError::Layout { found })
+            with_weeks(&charted[count - 4..]),
+            with_weeks(charted),
+            "{count}"
+        );
+        assert_ne!(
+            with_weeks(&charted[count - 3..]),
+            with_weeks(charted),
+            "{count}"
         );
     }
 }

@@ -32,7 +32,7 @@ flag_of b = cond b 1 0
 
 abbrev pub set_refused : ℕ → GrainCharted
 set_refused number =
-    record { accepted = 0; number = number; week = 0; count = 0; sum = pos 0; range = 0; al = 0; tl = 0; run = 0; ral = 0; rtl = 0; length = 0 }
+    record { accepted = 0; number = number; week = 0; count = 0; plot = pos 0; range = 0; al = 0; tl = 0; run = 0; ral = 0; rtl = 0; length = 0 }
 
 -- the output line's nine fields and its length
 abbrev pub set_given : Result Charted Refusal → GrainCharted
@@ -43,7 +43,7 @@ set_given (Ok charted) =
       number = 0;
       week = v.week;
       count = v.count;
-      sum = v.sum;
+      plot = v.plot;
       range = v.range;
       al = flag_of v.al;
       tl = flag_of v.tl;

@@ -31,12 +31,12 @@ pub fn limits_of(row: u32) -> Limits
 
 // ---- absolute and tolerance
 
-// The average's magnitude is equal to or above the limit: in 64 bits the product always fits.
+// The magnitude of what the set plots is equal to or above the limit.
 #[tactic(auto, unfolding(chart_rules::specs::Limits::absolute))]
 fn reaches(limit: u32, s: ChartSet) -> bool
     ensures { result ≡ absolute limit s }
 {
-    u64::from(limit) * u64::from(s.count) <= u64::from(s.sum.unsigned_abs())
+    limit <= s.plot.unsigned_abs()
 }
 
 // A set to be judged by its row's limits after the sets before it, newest first.
@@ -64,7 +64,8 @@ impl Judged<'_> {
         };
         reaches(self.limits.tl, self.set)
             && reaches(self.limits.tl, *before)
-            && ((0 <= self.set.sum && 0 <= before.sum) || (self.set.sum <= 0 && before.sum <= 0))
+            && ((0 <= self.set.plot && 0 <= before.plot)
+                || (self.set.plot <= 0 && before.plot <= 0))
     }
 
     pub fn range_absolute(&self) -> bool

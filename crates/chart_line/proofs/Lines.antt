@@ -18,11 +18,11 @@ to_right : (a b c d e f : List ℕ) → a ++ (b ++ (c ++ (d ++ (e ++ f)))) ≡ a
 to_right a b c d e f = simp append_assoc
 
 pub line_parts : (v : Values)
-    → line_of v ≡ show v.week ++ (space ∷ show v.count) ++ (space ∷ show_signed v.sum) ++ (space ∷ show v.range) ++ flag_bytes v ++ (line_feed ∷ [])
+    → line_of v ≡ show v.week ++ (space ∷ show v.count) ++ (space ∷ show_signed v.plot) ++ (space ∷ show v.range) ++ flag_bytes v ++ (line_feed ∷ [])
 unfolding line_of flag_bytes show_signed
 line_parts v =
     rw (truth_byte v.al, truth_byte v.tl, truth_byte v.run, truth_byte v.ral, truth_byte v.rtl)
-    (to_right (show v.week) (space ∷ show v.count) (space ∷ show_signed v.sum) (space ∷ show v.range) (flag_bytes v) (line_feed ∷ []))
+    (to_right (show v.week) (space ∷ show v.count) (space ∷ show_signed v.plot) (space ∷ show v.range) (flag_bytes v) (line_feed ∷ []))
 
 pub flags_length : (v : Values) → length (flag_bytes v) ≡ 10
 unfolding flag_bytes
@@ -30,4 +30,4 @@ flags_length v = refl
 
 pub values_small : (c : Chart) (week : ℕ) (s : ChartSet) → week ≤ 9999 → SoundSet s → SmallValues (values_of c week s)
 unfolding values_of
-values_small c week s h f = record { week = omega arith; count = omega (arith, f.five); sum = omega (arith, f.five, f.sum); range = omega (arith, f.range) }
+values_small c week s h f = record { week = omega arith; count = omega (arith, f.five); plot = omega (arith, f.plot); range = omega (arith, f.range) }

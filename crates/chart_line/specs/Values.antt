@@ -8,7 +8,7 @@ use Rattle.chart_rules.specs.declared.Values.{Values}
 pub record SmallValues (v : Values) : Type 0 where
   pub week : v.week < 100000
   pub count : v.count < 100000
-  pub sum : nat_abs v.sum < 100000
+  pub plot : nat_abs v.plot < 100000
   pub range : v.range < 100000
 
 -- the flags, 1 or 0, each after a space

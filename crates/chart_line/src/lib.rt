@@ -22,7 +22,7 @@ pub fn values_of(chart: Chart, week: u32, s: ChartSet) -> Values
     Values {
         week,
         count: s.count,
-        sum: s.sum,
+        plot: s.plot,
         range: s.range,
         al: judged.absolute(),
         tl: judged.tolerance(),
@@ -53,7 +53,7 @@ pub fn write_values(out: &mut [u8], at: usize, v: Values) -> usize
 {
     let a = decimal::put_number(out, at, v.week);
     let b = decimal::put_field(out, a, v.count);
-    let c = decimal::put_signed(out, b, v.sum);
+    let c = decimal::put_signed(out, b, v.plot);
     let d = decimal::put_field(out, c, v.range);
     let e = put_flags(out, d, v);
     decimal::put_byte(out, e, b'\n')

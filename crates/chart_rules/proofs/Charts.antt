@@ -1,7 +1,7 @@
 -- What is known of a sound chart; a fresh one is sound, and the chart after a good set.
 use mathlib.Core.Path.{◌≡◌, sym, ap, ◌∙◌}
 use mathlib.Core.Bool.{true, false, ◌&&◌}
-use mathlib.Core.List.{List, ◌∷◌}
+use mathlib.Core.List.{List, [], ◌∷◌}
 use Prim.Native.Nat.{ℕ, suc, ◌+◌, ◌≤◌, min}
 use native.Mathlib.Omega.{arith}
 use lib.ListN.{take}
@@ -13,7 +13,7 @@ use Rattle.whole.proofs.Elements.{take_min, all_take}
 use Rattle.chart_rules.specs.Refusals.{bad_week}
 use Rattle.chart_rules.specs.Charts.{sound_set, sound, past_of, fresh_chart, next_chart}
 use Rattle.chart_rules.specs.Rows.{row_exists}
-use Rattle.chart_rules.specs.Laws.{NewestFour}
+use Rattle.chart_rules.specs.Laws.{NewestFour, FourSets}
 use Rattle.chart_rules.specs.declared.ChartSet.{ChartSet}
 use Rattle.chart_rules.specs.declared.Chart.{Chart}
 use Rattle.chart_rules.proofs.Bounds.{week_facts}
@@ -41,6 +41,12 @@ newest_four_lem c week s =
     let f : min (min 3 n) 3 ≡ min 3 n = omega arith in
     ap (λ (k : ℕ). take k (s ∷ take 3 l)) e
     ∙ ap (λ (r : List ChartSet). s ∷ r) (take_min (min 3 n) 3 l ∙ ap (λ (k : ℕ). take k l) f ∙ sym (take_min 3 n l))
+
+pub four_sets_lem : FourSets
+unfolding next_chart
+four_sets_lem c k l m n p q r s =
+    let held : min 4 (min 4 (min 4 (min 4 (c.held + 1) + 1) + 1) + 1) ≡ 4 = omega arith in
+    λ i. record { row = c.row; week = n; held = held i; sets = s ∷ r ∷ q ∷ p ∷ [] }
 
 next_parts : (c : Chart) (week : ℕ) (s : ChartSet) → SoundChart c → bad_week c.week week ≡ false → sound_set s ≡ true
     → row_exists (next_chart c week s).row && leb (next_chart c week s).week 9999 && leb (next_chart c week s).held 4 && all sound_set (take 4 (s ∷ past_of c)) ≡ true

@@ -1,6 +1,6 @@
 pub mod Bounds
+pub mod Plots
 pub mod Sets
-pub mod Averages
 pub mod Lines
 pub mod Charts
 pub mod Fine

@@ -21,13 +21,13 @@ unfolding show_signed show shown
 truth_byte true = refl
 truth_byte false = refl
 
-pub line_short : (v : Values) → v.week < 100000 → v.count < 100000 → nat_abs v.sum < 100000 → v.range < 100000 → length (line_of v) ≤ 40
+pub line_short : (v : Values) → v.week < 100000 → v.count < 100000 → nat_abs v.plot < 100000 → v.range < 100000 → length (line_of v) ≤ 40
 unfolding line_of show_signed
-line_short v week count sum range =
+line_short v week count plot range =
     simp (length-append, truth_byte v.al, truth_byte v.tl, truth_byte v.run, truth_byte v.ral, truth_byte v.rtl)
-    (omega (arith, width_5 v.week week, width_5 v.count count, width_signed v.sum sum, width_5 v.range range))
+    (omega (arith, width_5 v.week week, width_5 v.count count, width_signed v.plot plot, width_5 v.range range))
 
 pub sound_short : (c : Chart) (week : ℕ) (s : ChartSet) → week ≤ 9999 → SoundSet s → length (line_of (values_of c week s)) ≤ 40
 unfolding values_of
 sound_short c week s h f =
-    line_short (values_of c week s) (omega arith) (omega (arith, f.five)) (omega (arith, f.five, f.sum)) (omega (arith, f.range))
+    line_short (values_of c week s) (omega arith) (omega (arith, f.five)) (omega (arith, f.plot)) (omega (arith, f.range))

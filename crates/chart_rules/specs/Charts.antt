@@ -1,5 +1,5 @@
 -- docs/SPECIFICATION.md, "Control charts" and "Refused calls": a chart, its soundness, a fresh one, and the chart after a set.
-use Rattle.std.specs.Prelude.{ℕ, ◌+◌, ◌*◌, min, Bool, ◌&&◌, List, ◌∷◌, nat_abs, take, replicate, leb}
+use Rattle.std.specs.Prelude.{ℕ, ◌+◌, min, Bool, ◌&&◌, List, ◌∷◌, nat_abs, take, replicate, leb}
 use Rattle.whole.specs.Lists.{all}
 use Rattle.chart_rules.specs.Rows.{row_exists}
 use Rattle.chart_rules.specs.Sets.{blank_set}
@@ -10,9 +10,9 @@ use Rattle.chart_rules.specs.declared.Chart.{Chart}
 abbrev pub past_of : Chart → List ChartSet
 past_of c = take c.held c.sets
 
--- a held set is sound if its count is 1 to 5, |sum| at most 10000 times the count and its range 0..20000
+-- a held set is sound if its count is 1 to 5, |plot| at most 10000 and its range 0..20000
 unfoldable pub sound_set : ChartSet → Bool
-sound_set s = leb 1 s.count && leb s.count 5 && leb (nat_abs s.sum) (10000 * s.count) && leb s.range 20000
+sound_set s = leb 1 s.count && leb s.count 5 && leb (nat_abs s.plot) 10000 && leb s.range 20000
 
 -- a chart is sound if its row exists, its last week is 0..9999, and its held sets, at most four, are sound
 unfoldable pub sound : Chart → Bool

@@ -1,9 +1,10 @@
 -- What the chart's rules and calls promise besides the calls' contracts.
-use Rattle.std.specs.Prelude.{ℕ, ◌+◌, ◌≤◌, ◌<◌, ◌≡◌, true, false, List, [], ◌∷◌, ◌++◌, map, ℤ, pos, ◌*ℤ◌, length, take, drop, Option, Some, None, Ok}
+use Rattle.std.specs.Prelude.{ℕ, ◌+◌, ◌≤◌, ◌<◌, ◌≡◌, true, false, List, [], ◌∷◌, ◌++◌, map, ℤ, pos, nat_abs, ◌+ℤ◌, ◌-ℤ◌, ◌*ℤ◌, ◌≤ℤ◌, ◌<ℤ◌, length, take, drop, Option, Some, None, Ok}
+use Rattle.whole.specs.Lists.{total}
 use Rattle.chart_rules.specs.Rows.{row_exists}
-use Rattle.chart_rules.specs.Run.{sixtieths}
+use Rattle.chart_rules.specs.Sets.{pairs_of, originals, monitors, differences, mean_of, set_of}
 use Rattle.chart_rules.specs.Charts.{past_of, sound, fresh_chart, next_chart}
-use Rattle.chart_rules.specs.Refusals.{number_of, checks_of}
+use Rattle.chart_rules.specs.Refusals.{number_of, bad_size, bad_result, checks_of}
 use Rattle.chart_rules.specs.Calls.{open_of, result_of, bytes_of, chart_set_of, open_says, chart_says}
 use Rattle.chart_rules.specs.Places.{chart_at, fresh_places, next_places}
 use Rattle.chart_rules.specs.InPlace.{open_in, chart_set_in}
@@ -17,13 +18,30 @@ use Rattle.chart_rules.specs.declared.ValueLine.{ValueLine}
 
 -- ---- a chart
 
--- a set's sixtieths times its count are sixty times its sum: sixtieths / 60 is the average itself
-abbrev pub SixtiethsExact : Type 0
-SixtiethsExact = (s : ChartSet) → 1 ≤ s.count → s.count ≤ 5 → sixtieths s *ℤ pos s.count ≡ pos 60 *ℤ s.sum
+-- a mean is at most half a hundredth from the exact one, and a half goes up
+abbrev pub MeanNear : List ℤ → Type 0
+MeanNear results =
+    let n = pos (length results) in
+    let rounded = pos 2 *ℤ (mean_of results *ℤ n) in
+    let exact = pos 2 *ℤ total results in
+    (rounded ≤ℤ (exact +ℤ n)) × (exact <ℤ (rounded +ℤ n))
+
+-- how far rounding moves a set's two means and its plot, the count multiplied out
+pub record PlotNear : Type 0 where
+  pub means : (numbers : List ℤ) → bad_size (length numbers) ≡ false → bad_result numbers ≡ false
+      → MeanNear (originals (pairs_of numbers)) × MeanNear (monitors (pairs_of numbers))
+  -- a plot is less than a hundredth from the set's exact average, the sum of its differences over the count
+  pub plot : (numbers : List ℤ) → bad_size (length numbers) ≡ false → bad_result numbers ≡ false
+      → let s = set_of numbers in nat_abs (s.plot *ℤ pos s.count -ℤ total (differences (pairs_of numbers))) < s.count
 
 -- after a set the newest four are held
 abbrev pub NewestFour : Type 0
 NewestFour = (c : Chart) (week : ℕ) (s : ChartSet) → past_of (next_chart c week s) ≡ take 4 (s ∷ past_of c)
+
+-- after four sets nothing is left of the chart that they came to but its row: charted on a fresh chart, they make the same one
+abbrev pub FourSets : Type 0
+FourSets = (c : Chart) (k l m n : ℕ) (p q r s : ChartSet)
+    → next_chart (next_chart (next_chart (next_chart c k p) l q) m r) n s ≡ record { row = c.row; week = n; held = 4; sets = s ∷ r ∷ q ∷ p ∷ [] }
 
 -- ---- its calls
 

@@ -1,4 +1,4 @@
--- docs/SPECIFICATION.md, "Control charts": the output line `week n sum range al tl run ral rtl` of one set.
+-- docs/SPECIFICATION.md, "Control charts": the output line `week n plot range al tl run ral rtl` of one set.
 use Rattle.std.specs.Prelude.{ℕ, Bool, cond, List, [], ◌∷◌, ◌++◌, ℤ, pos}
 use Rattle.decimal.specs.Bytes.{space, line_feed}
 use Rattle.decimal.specs.Show.{show_signed}
@@ -10,14 +10,14 @@ use Rattle.chart_rules.specs.declared.ChartSet.{ChartSet}
 use Rattle.chart_rules.specs.declared.Chart.{Chart}
 use Rattle.chart_rules.specs.declared.Values.{Values}
 
--- what the line says: week, count, sum of differences, range, then average absolute, tolerance, run, range absolute, range tolerance
+-- what the line says: week, count, plotted average, range, then average absolute, tolerance, run, range absolute, range tolerance
 unfoldable pub values_of : Chart → ℕ → ChartSet → Values
 values_of c week s =
     let limits = limits_of c.row in
     record {
       week = week;
       count = s.count;
-      sum = s.sum;
+      plot = s.plot;
       range = s.range;
       al = absolute limits.al s;
       tl = tolerance limits.tl s (past_of c);
@@ -32,7 +32,7 @@ truth b = cond b (pos 1) (pos 0)
 
 -- the line's nine fields, in the order of its names
 abbrev pub fields : Values → List ℤ
-fields v = pos v.week ∷ pos v.count ∷ v.sum ∷ pos v.range ∷ truth v.al ∷ truth v.tl ∷ truth v.run ∷ truth v.ral ∷ truth v.rtl ∷ []
+fields v = pos v.week ∷ pos v.count ∷ v.plot ∷ pos v.range ∷ truth v.al ∷ truth v.tl ∷ truth v.run ∷ truth v.ral ∷ truth v.rtl ∷ []
 
 -- fields in decimal, single spaces between them, a line feed at the end
 abbrev pub line : List ℤ → List ℕ

@@ -30,7 +30,7 @@ chart_after c (s ∷ sets) = chart_after (result_of c s.week s.numbers 40).chart
 
 -- the output's names line, its line feed included
 abbrev pub output_names : List ℕ
-output_names = bytes "week n sum range al tl run ral rtl\n"
+output_names = bytes "week n plot range al tl run ral rtl\n"
 
 -- a text's sets
 unfoldable pub text_sets : List ℕ → List Gathered

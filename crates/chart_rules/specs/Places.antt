@@ -1,4 +1,4 @@
--- A chart in the 15 places (int32_t) of its caller: row, last week, held, then four sets of three places each, newest first: count, sum, range. Reading is
+-- A chart in the 15 places (int32_t) of its caller: row, last week, held, then four sets of three places each, newest first: count, plot, range. Reading is
 -- total: whatever stands there is a chart, sound or not.
 use Rattle.std.specs.Prelude.{ℕ, ◌+◌, min, cond, List, [], ◌∷◌, eqb, ℤ, pos, length, take, drop, replicate}
 use Rattle.whole.specs.Places.{place, natural}
@@ -11,7 +11,7 @@ use Rattle.chart_rules.specs.declared.Chart.{Chart}
 module _ (words : List ℤ) where
   -- the set whose places begin there
   unfoldable pub chart_set_at : ℕ → ChartSet
-  chart_set_at i = record { count = natural (place words i); sum = place words (i + 1); range = natural (place words (i + 2)) }
+  chart_set_at i = record { count = natural (place words i); plot = place words (i + 1); range = natural (place words (i + 2)) }
 
   -- the chart in 15 places
   unfoldable pub chart_in : Chart
@@ -36,4 +36,4 @@ fresh_places row = pos row ∷ replicate 14 (pos 0)
 -- the places after a set: the row as it stands, the set's week, one held more and four at most, the set, and the nine places of the three before it as they stand
 unfoldable pub next_places : List ℤ → ℕ → ChartSet → List ℤ
 next_places words week s =
-    place words 0 ∷ pos week ∷ pos (min 4 (natural (place words 2) + 1)) ∷ pos s.count ∷ s.sum ∷ pos s.range ∷ take 9 (drop 3 words)
+    place words 0 ∷ pos week ∷ pos (min 4 (natural (place words 2) + 1)) ∷ pos s.count ∷ s.plot ∷ pos s.range ∷ take 9 (drop 3 words)

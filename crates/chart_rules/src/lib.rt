@@ -26,6 +26,9 @@ pub const MOST_PAIRS: u32 = 5;
 // And its numbers, two for each pair.
 pub const MOST_NUMBERS: usize = 2 * MOST_PAIRS as usize;
 
+// The largest magnitude of a plot: no two means of results lie further apart.
+pub const LARGEST_PLOT: u32 = LARGEST_RESULT;
+
 // The largest range: no two differences of results lie further apart.
 pub const LARGEST_RANGE: u32 = 20000;
 
@@ -79,11 +82,11 @@ pub struct Limits {
     pub rtl: u32,
 }
 
-// A set: the number of its pairs, the sum of its differences, the largest difference minus the smallest.
+// A set: the number of its pairs, its plotted average, the largest difference minus the smallest.
 #[derive(Clone, Copy)]
 pub struct ChartSet {
     pub count: u32,
-    pub sum: i32,
+    pub plot: i32,
     pub range: u32,
 }
 
@@ -110,7 +113,7 @@ impl Chart {
 pub struct Values {
     pub week: u32,
     pub count: u32,
-    pub sum: i32,
+    pub plot: i32,
     pub range: u32,
     pub al: bool,
     pub tl: bool,

@@ -3,8 +3,7 @@
 #![tactic(auto)]
 
 ghost use Rattle.std.specs.Prelude.{◌≡◌, take};
-ghost use Rattle.whole.specs.Bounds.{Within};
-ghost use Rattle.chart_rules.specs.Run.{sixtieths as sixtieths_of, one_side, run_by, run as run_of};
+ghost use Rattle.chart_rules.specs.Run.{one_side, run_by, run as run_of};
 
 use chart_rules::ChartSet;
 
@@ -12,25 +11,17 @@ use chart_rules::ChartSet;
 fn one_side(four: &[ChartSet; 4]) -> bool
     ensures { result ≡ one_side four.now }
 {
-    four.iter().all(|s| 0 < s.sum) || four.iter().all(|s| s.sum < 0)
+    four.iter().all(|s| 0 < s.plot) || four.iter().all(|s| s.plot < 0)
 }
 
-// Sixty times the set's average; 0 for a set without pairs, which no sound chart holds.
-#[tactic(auto, unfolding(chart_rules::specs::Run::sixtieths))]
-fn sixtieths(s: ChartSet) -> i64
-    ensures { (result ≡ sixtieths_of s) × Within 128849018880 128849018880 result }
-{
-    i64::from(s.sum) * i64::from(60_u32.checked_div(s.count).unwrap_or(0))
-}
-
-// Four sets are a run.
+// Four sets are a run: in 64 bits the sum of any four plots fits, and four times any limit.
 #[tactic(auto, unfolding(chart_rules::specs::Run::run_by))]
 fn run_by(limit: u32, four: &[ChartSet; 4]) -> bool
     ensures { result ≡ run_by limit four.now }
 {
     let [s, p, q, w] = *four;
-    let sum = sixtieths(s) + sixtieths(p) + sixtieths(q) + sixtieths(w);
-    one_side(four) && 240 * u64::from(limit) < sum.unsigned_abs()
+    let sum = i64::from(s.plot) + i64::from(p.plot) + i64::from(q.plot) + i64::from(w.plot);
+    one_side(four) && 4 * u64::from(limit) < sum.unsigned_abs()
 }
 
 // This set and any three of the four before it, newest first, or of all where they are fewer. It is handed the three and no `Judged`: that is of chart_limits, which needs no run.

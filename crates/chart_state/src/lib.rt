@@ -30,7 +30,7 @@ fn set_at(state: &[i32], at: usize) -> ChartSet
 {
     ChartSet {
         count: state[at].cast_unsigned(),
-        sum: state[at + 1],
+        plot: state[at + 1],
         range: state[at + 2].cast_unsigned(),
     }
 }
@@ -41,7 +41,7 @@ fn fresh_chart(row: u32) -> Chart
 {
     let blank = ChartSet {
         count: 0,
-        sum: 0,
+        plot: 0,
         range: 0,
     };
     Chart {
@@ -104,7 +104,7 @@ pub fn put_next(state: &mut [i32], week: u32, s: ChartSet)
     ensures { state.new ≡ next_places state.old week s }
 {
     let held = held::one_more(state[HELD_PLACE].cast_unsigned());
-    let set = [s.count.cast_signed(), s.sum, s.range.cast_signed()];
+    let set = [s.count.cast_signed(), s.plot, s.range.cast_signed()];
     state[WEEK_PLACE] = week.cast_signed();
     state[HELD_PLACE] = held.cast_signed();
     held::join(&mut state[FIRST_SET..CHART_PLACES], set);

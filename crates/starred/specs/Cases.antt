@@ -6,7 +6,7 @@ use Rattle.station_rules.specs.Replies.{refused_by, outcome, certificate}
 use Rattle.station_rules.specs.Cases.{Seen, read, sheet, market, charted, Case, read_of, again, results, deviations, two_deviations, dry_on}
 use Rattle.chart_rules.specs.Cases.{averages}
 
--- the last of sets with these sums, n 5, in weeks 1, 2, .. of a fresh wheat chart
+-- the last of sets with these sums, n 5, each monitor result 1000, in weeks 1, 2, .. of a fresh wheat chart
 abbrev pub sums : List ℤ → Seen
 sums ss = charted (averages ss)
 
@@ -43,10 +43,10 @@ starred =
     -- h 1354 dry: 135 and 154; h 1350 dry: 135 and 153 (13.54 and 13.5)
     ∷ record { gives = dry_on open_line (pos 0 ∷ []) 0x4158_a3d7; says = market (certificate 1 (pos 0) (pos 0) 135 154) }
     ∷ record { gives = dry_on open_line (pos 0 ∷ []) 0x4158_0000; says = market (certificate 1 (pos 0) (pos 0) 135 153) }
-    -- chart, n 5: sum 100 is absolute, 99 isn't
-    ∷ record { gives = sums (pos 100 ∷ []); says = charted (pos 1 ∷ pos 0 ∷ pos 0 ∷ []) }
-    ∷ record { gives = sums (pos 99 ∷ []); says = charted (pos 0 ∷ pos 0 ∷ pos 0 ∷ []) }
-    -- 75 then 75: tolerance; 75 then −75: none
+    -- chart, n 5: sum 98 plots 20, which is absolute; 97 plots 19, which isn't
+    ∷ record { gives = sums (pos 98 ∷ []); says = charted (pos 1 ∷ pos 0 ∷ pos 0 ∷ []) }
+    ∷ record { gives = sums (pos 97 ∷ []); says = charted (pos 0 ∷ pos 0 ∷ pos 0 ∷ []) }
+    -- 75 then 75, which plot 15 each: tolerance; 75 then −75: none
     ∷ record { gives = sums (pos 75 ∷ pos 75 ∷ []); says = charted (pos 0 ∷ pos 1 ∷ pos 0 ∷ []) }
     ∷ record { gives = sums (pos 75 ∷ negsuc 74 ∷ []); says = charted (pos 0 ∷ pos 0 ∷ pos 0 ∷ []) }
     ∷ []

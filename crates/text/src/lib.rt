@@ -39,6 +39,6 @@ pub fn chart_text(text: &[u8], out: &mut [u8]) -> Result<usize, RefusedText>
     if out.len() / LINE_ROOM <= sets {
         return Err(TextRefusal::ShortBuffer.at_line(0));
     }
-    let start = decimal::put_bytes(out, 0, b"week n sum range al tl run ral rtl\n");
+    let start = decimal::put_bytes(out, 0, b"week n plot range al tl run ral rtl\n");
     Ok(write_sets(text, out, start))
 }

@@ -1,9 +1,13 @@
--- Quotients rounded to a whole number: readings' corrections, and figures as they are reported.
+-- Quotients rounded to a whole number: readings' corrections, figures as they are reported, and the means that charts plot.
 use Rattle.std.specs.Prelude.{ℕ, ◌+◌, ◌*◌, ◌/◌, ℤ, pos, negsuc, neg_ℤ, nat_abs}
+
+-- n over d, rounded to the nearest whole number, halves up
+abbrev pub half_up : ℕ → ℕ → ℕ
+half_up n d = (2 * n + d) / (2 * d)
 
 -- z over n, rounded to the nearest whole number, halves away from zero
 unfoldable pub rounded_away : ℤ → ℕ → ℤ
-rounded_away z n = away z ((2 * nat_abs z + n) / (2 * n))
+rounded_away z n = away z (half_up (nat_abs z) n)
   where
     away : ℤ → ℕ → ℤ
     away (pos k) r = pos r
@@ -11,4 +15,4 @@ rounded_away z n = away z ((2 * nat_abs z + n) / (2 * n))
 
 -- a figure as it is reported: n over d tenths, rounded once to the nearest tenth, halves up
 unfoldable pub nearest_tenth : ℕ → ℕ → ℕ
-nearest_tenth n d = (2 * n + d) / (2 * d)
+nearest_tenth n d = half_up n d

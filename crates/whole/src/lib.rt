@@ -4,7 +4,7 @@
 
 ghost use Rattle.std.specs.Prelude.{◌≡◌, ◌+◌, ◌*◌, ◌≤◌, nat_abs};
 ghost use Rattle.whole.specs.Bounds.{Within};
-ghost use Rattle.whole.specs.Rounding.{rounded_away, nearest_tenth};
+ghost use Rattle.whole.specs.Rounding.{half_up, rounded_away, nearest_tenth};
 
 pub mod held;
 
@@ -17,11 +17,19 @@ pub fn rounded(dividend: i32, divisor: u32) -> i32
     if dividend < 0 { -quotient } else { quotient }
 }
 
+// Dividend / divisor rounded to the nearest whole number, halves up.
+pub fn half_up(dividend: u64, divisor: u64) -> u64
+    requires { (dividend ≤ 1000000000000) × ((1 ≤ divisor) × (divisor ≤ 1000000000000)) }
+    ensures { (result ≡ half_up dividend divisor) × (result ≤ dividend) }
+{
+    (2 * dividend + divisor) / (2 * divisor)
+}
+
 // A figure as it is reported: dividend / divisor tenths, rounded once to the nearest tenth, halves up.
 #[tactic(auto, unfolding(crate::specs::Rounding::nearest_tenth))]
 pub fn nearest_tenth(dividend: u64, divisor: u64) -> u64
     requires { (dividend ≤ 1000000000000) × ((1 ≤ divisor) × (divisor ≤ 1000000000000)) }
     ensures { (result ≡ nearest_tenth dividend divisor) × (result ≤ dividend) }
 {
-    (2 * dividend + divisor) / (2 * divisor)
+    half_up(dividend, divisor)
 }

@@ -3,18 +3,18 @@
 use crate::Refusal;
 use crate::rules::{ChartRow, Rules};
 
-/// A charted set: count, sum of differences, range.
+/// A charted set: count, plot, range.
 #[derive(Clone, Copy, Debug, PartialEq, Eq)]
 pub struct ChartSet {
     pub count: i64,
-    pub sum: i64,
+    pub plot: i64,
     pub range: i64,
 }
 
 /// A place that no set has come to yet.
 pub const BLANK: ChartSet = ChartSet {
     count: 0,
-    sum: 0,
+    plot: 0,
     range: 0,
 };
 
@@ -28,13 +28,13 @@ pub struct Chart {
     pub sets: [ChartSet; 4],
 }
 
-/// Fields: week, count, sum of differences, range, then 1 or 0 for average absolute, tolerance,
-/// run, range absolute, range tolerance, and the length of the line.
+/// Fields: week, count, plot, range, then 1 or 0 for average absolute, tolerance, run, range
+/// absolute, range tolerance, and the length of the line.
 #[derive(Clone, Copy, Debug, PartialEq, Eq)]
 pub struct ChartValues {
     pub week: i64,
     pub count: i64,
-    pub sum: i64,
+    pub plot: i64,
     pub range: i64,
     pub absolute: bool,
     pub tolerance: bool,
@@ -44,49 +44,49 @@ pub struct ChartValues {
     pub length: usize,
 }
 
+/// A mean rounded to a hundredth, halves up: the next whole hundredth, unless less is over than the
+/// next one lacks. For one result or more, none below zero.
+fn rounded_mean(results: &[i64]) -> i64 {
+    let count = results.len() as i64;
+    let sum: i64 = results.iter().sum();
+    let (whole, over) = (sum / count, sum % count);
+    let lacking = count - over;
+    if over < lacking { whole } else { whole + 1 }
+}
+
 impl ChartSet {
-    /// A set's average is the exact sum of original minus monitor over the count. Range is largest
-    /// minus smallest difference. For numbers in pairs.
+    /// The plotted average is the original mean minus the monitor mean, each first rounded to a
+    /// hundredth, halves up. Range is largest minus smallest difference. For one pair or more.
     pub fn of(numbers: &[i32]) -> ChartSet {
-        let difference = |pair: &[i32]| i64::from(pair[0]) - i64::from(pair[1]);
-        let differences = || numbers.chunks_exact(2).map(difference);
+        let results = |place: usize| -> Vec<i64> {
+            let pairs = numbers.chunks_exact(2);
+            pairs.map(|pair| i64::from(pair[place])).collect()
+        };
+        let (originals, monitors) = (results(0), results(1));
+        let pairs = || originals.iter().zip(&monitors);
+        let differences = || pairs().map(|(original, monitor)| original - monitor);
         let largest = differences().max().unwrap_or(0);
         let smallest = differences().min().unwrap_or(0);
         ChartSet {
-            count: differences().count() as i64,
-            sum: differences().sum(),
+            count: originals.len() as i64,
+            plot: rounded_mean(&originals) - rounded_mean(&monitors),
             range: largest - smallest,
         }
     }
-
-    /// The average is at or above the line.
-    fn at_or_above(&self, line: i64) -> bool {
-        self.sum >= line * self.count
-    }
-
-    /// The average is at or below the line.
-    fn at_or_below(&self, line: i64) -> bool {
-        self.sum <= line * self.count
-    }
-
-    /// Sixty times the average: a whole number, as a count is 1 to 5.
-    fn sixty_averages(&self) -> i64 {
-        self.sum * (60 / self.count)
-    }
 }
 
-/// Absolute: magnitude equal to or above the limit.
+/// Absolute: the plot's magnitude equal to or above the limit.
 fn absolute(row: &ChartRow, set: &ChartSet) -> bool {
-    set.at_or_above(row.absolute) || set.at_or_below(-row.absolute)
+    set.plot.abs() >= row.absolute
 }
 
-/// Tolerance: this set and the one before both at or above the upper line, or both at or below the
-/// lower.
+/// Tolerance: the plots of this set and of the one before both at or above the upper line, or both
+/// at or below the lower.
 fn tolerance(row: &ChartRow, set: &ChartSet, before: &[ChartSet]) -> bool {
     before.first().is_some_and(|before| {
-        let two = [set, before];
-        two.iter().all(|set| set.at_or_above(row.tolerance))
-            || two.iter().all(|set| set.at_or_below(-row.tolerance))
+        let plots = [set.plot, before.plot];
+        plots.iter().all(|&plot| plot >= row.tolerance)
+            || plots.iter().all(|&plot| plot <= -row.tolerance)
     })
 }
 
@@ -97,13 +97,15 @@ fn range_tolerance(row: &ChartRow, set: &ChartSet, before: &[ChartSet]) -> bool 
     })
 }
 
-/// This set and three .. lie strictly on one side of zero, and the magnitude of the mean of those
-/// four averages is above the limit: sixty times the sum against 60 · 4 times the limit.
+/// The plots of this set and of three .. lie strictly on one side of zero, and the magnitude of the
+/// mean of those four plots is above the limit. The mean is exact, not rounded: their sum against
+/// four times the limit.
 fn runs(row: &ChartRow, four: [&ChartSet; 4]) -> bool {
-    let above = four.iter().all(|set| set.sum > 0);
-    let below = four.iter().all(|set| set.sum < 0);
-    let sum: i64 = four.iter().map(|set| set.sixty_averages()).sum();
-    (above || below) && sum.abs() > 60 * 4 * row.run
+    let plots = four.map(|set| set.plot);
+    let above = plots.iter().all(|&plot| plot > 0);
+    let below = plots.iter().all(|&plot| plot < 0);
+    let sum: i64 = plots.iter().sum();
+    (above || below) && sum.abs() > 4 * row.run
 }
 
 /// Run: this set and three of the previous four (or of all, if fewer) ..; any such choice
@@ -153,9 +155,9 @@ impl Writer<'_> {
 
 impl ChartValues {
     /// The fields, single spaces between them, line feed included. Gives the length.
-    fn write(&self, buffer: &mut [u8]) -> usize {
+    pub fn write(&self, buffer: &mut [u8]) -> usize {
         let mut writer = Writer { buffer, length: 0 };
-        for number in [self.week, self.count, self.sum, self.range] {
+        for number in [self.week, self.count, self.plot, self.range] {
             writer.number(number);
             writer.byte(b' ');
         }
@@ -200,14 +202,14 @@ impl Chart {
     }
 
     /// A chart is sound if its row exists, its last week is 0..9999, and its held sets, at most
-    /// four, have count 1 to 5, |sum| at most 10000 times the count and range 0..20000.
+    /// four, have count 1 to 5, a plot of magnitude at most 10000 and range 0..20000.
     pub fn sound(&self, rules: &Rules) -> bool {
         rules.chart(self.row).is_some()
             && (0..=rules.last_week).contains(&self.last_week)
             && (0..=4).contains(&self.held)
             && self.held_sets().iter().all(|set| {
                 (1..=rules.pairs).contains(&set.count)
-                    && set.sum.abs() <= rules.chart_average * set.count
+                    && set.plot.abs() <= rules.chart_plot
                     && (0..=rules.chart_range).contains(&set.range)
             })
     }
@@ -248,11 +250,20 @@ impl Chart {
         }
         let row = rules.chart(self.row).ok_or(0)?;
         let set = ChartSet::of(numbers);
+        let mut values = self.judged(row, i64::from(week), set);
+        values.length = values.write(buffer);
+        self.hold(i64::from(week), set);
+        Ok(values)
+    }
+
+    /// The values of a week's set on a sound chart, its line not written yet: charts judge what they
+    /// plot, all average limits by the plot.
+    pub fn judged(&self, row: &ChartRow, week: i64, set: ChartSet) -> ChartValues {
         let before = self.held_sets();
-        let mut values = ChartValues {
-            week: i64::from(week),
+        ChartValues {
+            week,
             count: set.count,
-            sum: set.sum,
+            plot: set.plot,
             range: set.range,
             absolute: absolute(row, &set),
             tolerance: tolerance(row, &set, before),
@@ -260,12 +271,13 @@ impl Chart {
             range_absolute: set.range >= row.range_absolute,
             range_tolerance: range_tolerance(row, &set, before),
             length: 0,
-        };
-        values.length = values.write(buffer);
-        // The newest four are held; every place moves on by one, the spare ones too.
+        }
+    }
+
+    /// The newest four are held; every place moves on by one, the spare ones too.
+    pub fn hold(&mut self, week: i64, set: ChartSet) {
         self.sets = [set, self.sets[0], self.sets[1], self.sets[2]];
         self.held = (self.held + 1).min(4);
-        self.last_week = i64::from(week);
-        Ok(values)
+        self.last_week = week;
     }
 }

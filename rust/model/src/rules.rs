@@ -116,8 +116,8 @@ pub struct Rules {
     pub last_week: i64,
     /// A set has 1 to 5 pairs; numbers 18 and 20.
     pub pairs: i64,
-    /// |sum| at most 10000 times the count.
-    pub chart_average: i64,
+    /// The plot's magnitude is at most 10000.
+    pub chart_plot: i64,
     /// Range 0..20000.
     pub chart_range: i64,
     /// Number 21: A result lies outside 0..10000.
@@ -177,7 +177,7 @@ impl Rules {
             gluten_basis: 1_400,
             last_week: 9_999,
             pairs: 5,
-            chart_average: 10_000,
+            chart_plot: 10_000,
             chart_range: 20_000,
             chart_result: 10_000,
             text_bytes: 65_536,

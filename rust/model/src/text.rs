@@ -7,7 +7,7 @@ use crate::rules::Rules;
 /// Names line `week sample original monitor`, with its line feed.
 pub const INPUT_NAMES: &[u8] = b"week sample original monitor\n";
 /// The names line of the output.
-pub const OUTPUT_NAMES: &[u8] = b"week n sum range al tl run ral rtl\n";
+pub const OUTPUT_NAMES: &[u8] = b"week n plot range al tl run ral rtl\n";
 
 /// The number "and the text line (names line 1; 0 for number 15)".
 #[derive(Clone, Copy, Debug, PartialEq, Eq)]

@@ -8,13 +8,13 @@ use grain_model::sheet::Sample;
 use grain_model::station::BLANK;
 use grain_model::text::program;
 use grain_model::{
-    Asked, Basis, Book, Certificate, Chart, Judged, Line, LinePhase, PastSet, Rules, Scan, Station,
-    Test, Verdict, WheatClass, reading,
+    Asked, Basis, Book, Certificate, Chart, ChartSet, ChartValues, Judged, Line, LinePhase,
+    PastSet, Rules, Scan, Station, Test, Verdict, WheatClass, reading,
 };
 use sheets::{again, twice, wheat_sheet};
 
 const NAMES: &str = "week sample original monitor\n";
-const OUT_NAMES: &str = "week n sum range al tl run ral rtl\n";
+const OUT_NAMES: &str = "week n plot range al tl run ral rtl\n";
 
 fn wheat() -> Limits {
     Rules::in_force().products[0].lines[0].clone()
@@ -655,42 +655,176 @@ fn the_book_derives_from_the_sum() {
     assert_eq!(asked, Err(2));
 }
 
-/// The average of each set is its sum over 5.
-fn charted(sums: &[i32]) -> Vec<grain_model::ChartValues> {
-    let mut chart = Chart::fresh(0);
-    let mut buffer = [0; 40];
-    let mut chart_one = |(week, sum): (usize, &i32)| {
-        let numbers = [
-            [1300 + sum, 1300],
-            [1300; 2],
-            [1300; 2],
-            [1300; 2],
-            [1300; 2],
-        ];
-        let week = week as u32 + 1;
-        chart
-            .set(&Rules::in_force(), week, &numbers.concat(), &mut buffer)
-            .unwrap()
-    };
-    sums.iter().enumerate().map(&mut chart_one).collect()
+/// The numbers of a set with these results.
+fn pairs(originals: &[i32], monitors: &[i32]) -> Vec<i32> {
+    assert_eq!(originals.len(), monitors.len());
+    let pairs = originals.iter().zip(monitors);
+    pairs.flat_map(|(&one, &other)| [one, other]).collect()
+}
+
+fn plot(originals: &[i32], monitors: &[i32]) -> i64 {
+    ChartSet::of(&pairs(originals, monitors)).plot
+}
+
+/// The values of the last of these sets, on a fresh wheat chart.
+fn last_of(sets: &[Vec<i32>]) -> ChartValues {
+    let (rules, mut chart) = (Rules::in_force(), Chart::fresh(0));
+    let mut charted =
+        |(week, numbers): (u32, &Vec<i32>)| chart.set(&rules, week, numbers, &mut [0; 40]).unwrap();
+    (1..).zip(sets).map(&mut charted).last().unwrap()
+}
+
+/// The values of the last set of five pairs each, every monitor result 1000, whose differences have
+/// these sums.
+fn last(sums: &[i32]) -> ChartValues {
+    let set = |sum: &i32| pairs(&[1000 + sum, 1000, 1000, 1000, 1000], &[1000; 5]);
+    last_of(&sums.iter().map(set).collect::<Vec<_>>())
 }
 
 #[test]
 fn charts() {
-    let last = |sums: &[i32]| charted(sums).pop().unwrap();
-    assert!(last(&[100]).absolute && last(&[-100]).absolute);
-    assert!(!last(&[99]).absolute && !last(&[-99]).absolute);
+    assert_eq!([98, 97].map(|sum| last(&[sum]).plot), [20, 19]);
+    assert_eq!([-98, -97].map(|sum| last(&[sum]).plot), [-20, -19]);
+    assert!(last(&[98]).absolute && last(&[-98]).absolute);
+    assert!(!last(&[97]).absolute && !last(&[-97]).absolute);
+    assert_eq!([75, 73, 72].map(|sum| last(&[sum]).plot), [15, 15, 14]);
     assert!(last(&[75, 75]).tolerance && last(&[-75, -75]).tolerance);
-    assert!(!last(&[75, -75]).tolerance && !last(&[75, 74]).tolerance);
-    assert!(!last(&[75]).tolerance);
-    assert!(last(&[51, 51, 51, 51]).run && last(&[-51, -51, -51, -51]).run);
-    assert!(!last(&[50, 50, 50, 50]).run && !last(&[51, 51, 51]).run);
-    assert!(last(&[51, 51, -9, 51, 51]).run && last(&[-9, 51, 51, 51, 51]).run);
-    assert!(!last(&[51, 51, 0, 0, 51]).run && !last(&[51, 51, 51, 51, 0]).run);
-    // Any choice suffices: of four previous, the three largest.
-    assert!(last(&[55, 51, 51, 1, 45]).run);
+    assert!(last(&[75, 73]).tolerance && last(&[73, 75]).tolerance);
+    assert!(!last(&[75, -75]).tolerance && !last(&[75, 72]).tolerance);
+    assert!(!last(&[72, 75]).tolerance && !last(&[75]).tolerance);
     assert!(last(&[60, 60]).range_absolute && !last(&[59]).range_absolute);
     assert!(last(&[40, 40]).range_tolerance && !last(&[40, 39]).range_tolerance);
+}
+
+#[test]
+fn runs() {
+    assert_eq!([53, 52, 0, 2].map(|sum| last(&[sum]).plot), [11, 10, 0, 0]);
+    assert!(last(&[53, 53, 53, 53]).run && last(&[-53, -53, -53, -53]).run);
+    assert!(!last(&[52, 52, 52, 52]).run && !last(&[-52, -52, -52, -52]).run);
+    assert!(!last(&[53, 53, 53]).run);
+    // The mean of four isn't rounded: 11, 10, 10 and 10 are a run wherever the 11 stands.
+    for place in 0..4 {
+        let mut sums = [52; 4];
+        sums[place] = 53;
+        assert!(last(&sums).run && last(&sums.map(|sum| -sum)).run);
+    }
+    // As little as a hundredth less elsewhere, and there is none.
+    assert!(!last(&[53, 52, 45, 52]).run);
+    assert!(last(&[53, 53, -9, 53, 53]).run && last(&[-9, 53, 53, 53, 53]).run);
+    assert!(!last(&[53, 53, 0, 0, 53]).run && !last(&[53, 53, 53, 53, 0]).run);
+    // Any choice suffices: of four previous, the three largest.
+    assert_eq!([60, 6, 45].map(|sum| last(&[sum]).plot), [12, 1, 9]);
+    assert!(last(&[60, 53, 53, 6, 45]).run);
+    assert!(!last(&[53, 53, 6, 45]).run && !last(&[60, 53, 6, 45]).run);
+}
+
+/// A set that plots 0 lies on no side, whatever its sum: with three plots of 20 it is no run.
+#[test]
+fn a_plot_of_zero_is_on_no_side() {
+    for sum in [2, -2, 0] {
+        assert_eq!(last(&[sum]).plot, 0);
+        for place in 0..4 {
+            let mut sums = [100; 4];
+            sums[place] = sum;
+            assert!(!last(&sums).run && !last(&sums.map(|sum| -sum)).run);
+        }
+        // It is left out where three others go with this set.
+        assert!(last(&[100, sum, 100, 100, 100]).run);
+        assert!(!last(&[100, sum, 100, sum, 100]).run);
+        assert!(!last(&[100, 100, 100, 100, sum]).run);
+    }
+    // 3 plots 1.
+    assert!(last(&[100, 100, 100, 3]).run);
+}
+
+/// Each mean is rounded by itself, halves up.
+#[test]
+fn plots() {
+    let one = |original, monitor| plot(&[original], &[monitor]);
+    assert_eq!((one(1012, 1000), one(1000, 1012)), (12, -12));
+    assert_eq!((one(10_000, 0), one(0, 10_000)), (10_000, -10_000));
+    // Not symmetric: 1019.5 goes up to 1020, and 980.5 up to 981.
+    assert_eq!(plot(&[1039, 1000], &[1000; 2]), 20);
+    assert_eq!(plot(&[961, 1000], &[1000; 2]), -19);
+    // A half of the original mean, of the monitor mean, and of both. Of the second the mean of the
+    // differences, -0.5, would be rounded to 0.
+    assert_eq!(plot(&[1000, 1001], &[1000; 2]), 1);
+    assert_eq!(plot(&[1000; 2], &[1000, 1001]), -1);
+    assert_eq!(plot(&[1000, 1001], &[1000, 1001]), 0);
+    assert_eq!(plot(&[1001, 1002], &[1000; 2]), 2);
+    assert_eq!(plot(&[1000, 1001, 1000, 1001], &[1000; 4]), 1);
+    assert_eq!(plot(&[1000; 4], &[1003, 1000, 1002, 1001]), -2);
+    assert_eq!(plot(&[1000, 1001, 1000, 1000], &[1000; 4]), 0);
+    assert_eq!(plot(&[1000, 1001, 1001, 1001], &[1000; 4]), 1);
+    // 1000.33 and 1000.67, 1000.4 and 1000.6: the mean of the differences would be rounded to 0.
+    for count in [3, 5] {
+        let (less, more) = (
+            spread(1000 * count + count / 2, count),
+            spread(1000 * count + count / 2 + 1, count),
+        );
+        assert_eq!((plot(&less, &more), plot(&more, &less)), (-1, 1));
+    }
+    // 9999.6 plots 10000.
+    assert_eq!(plot(&[10_000; 5], &[0, 2, 0, 0, 0]), 10_000);
+    assert_eq!(plot(&[1, 0, 0, 1, 0], &[10_000; 5]), -10_000);
+}
+
+/// `count` results with this sum.
+fn spread(sum: i32, count: i32) -> Vec<i32> {
+    let result = |place| sum / count + i32::from(place < sum % count);
+    (0..count).map(result).collect()
+}
+
+/// For any means: each of the two is the nearest hundredth, of two as near the larger, and the plot
+/// lies less than a hundredth from the mean of the differences. So it is never on the other side of
+/// zero, and where that mean reaches a limit the plot does too.
+#[test]
+fn every_mean_is_rounded() {
+    for count in 1..=5 {
+        let over = 3 * count;
+        let off = |mean: i64, sum: i32| mean * i64::from(count) - i64::from(sum);
+        let half = 1 - i64::from(count)..=i64::from(count);
+        for sum in 0..=over {
+            let (results, zeros) = (spread(sum, count), spread(0, count));
+            assert!(half.contains(&(2 * off(plot(&results, &zeros), sum))));
+            assert!(half.contains(&(2 * off(-plot(&zeros, &results), sum))));
+            for other in 0..=over {
+                let apart = off(plot(&results, &spread(other, count)), sum - other);
+                assert!(apart.abs() < count.into(), "{sum} {other} {count}");
+            }
+        }
+    }
+}
+
+/// A held plot's magnitude is at most 10000, whatever the count.
+#[test]
+fn stored_charts() {
+    let rules = Rules::in_force();
+    let answer = |count, plot| {
+        let mut chart = Chart::fresh(0);
+        chart.hold(
+            1,
+            ChartSet {
+                count,
+                plot,
+                range: 0,
+            },
+        );
+        let mut buffer = [0; 40];
+        chart
+            .set(&rules, 2, &[1000, 1000], &mut buffer)
+            .map(|values| values.plot)
+    };
+    for count in 1..=5 {
+        for plot in [10_000, -10_000] {
+            assert_eq!(answer(count, plot), Ok(0));
+            assert_eq!(answer(count, plot + plot.signum()), Err(0));
+            assert_eq!(answer(count, 5 * plot), Err(0));
+        }
+    }
+    for count in [-1, 0, 6] {
+        assert_eq!(answer(count, 0), Err(0));
+    }
 }
 
 #[test]
@@ -727,7 +861,7 @@ fn printed(text: &str) -> String {
 fn week_26() {
     let text = "week sample original monitor\n\
         26 1 1315 1307\n26 2 1018 1054\n26 3 1447 1479\n26 4 1256 1223\n26 5 1857 1877\n";
-    let output = "week n sum range al tl run ral rtl\n26 5 -47 69 0 0 0 1 0\n";
+    let output = "week n plot range al tl run ral rtl\n26 5 -9 69 0 0 0 1 0\n";
     assert_eq!(printed(text), output);
     assert_eq!(printed(NAMES), OUT_NAMES);
 }

@@ -1,14 +1,16 @@
 //! Damaged models: each number of the rules off by one, models that tell the lines that aren't open
-//! wrongly, wrong calendars, and lots stated wrongly.
+//! wrongly, wrong calendars, lots stated wrongly, and charts that plot or judge wrongly.
 
 use grain_model::lot::{bad_sublot, statement, unlike_basis};
-use grain_model::rules::{CalendarRules, LotRules};
+use grain_model::rules::{CalendarRules, ChartRow, LotRules};
 use grain_model::{
-    Calendar, Line, LinePhase, LotStatement, Rules, Station, Sublot, Verdict, ship_lot,
+    Calendar, Chart, ChartSet, ChartValues, Line, LinePhase, LotStatement, Rules, Station, Sublot,
+    Verdict, ship_lot,
 };
 
 use crate::encode::{self, StationPlaces};
 use crate::markets;
+use crate::plots::{self, EXACT, PLOT, Plotted, SIXTIETHS};
 use crate::stations::Request;
 
 /// The numbers of the rules with a name each.
@@ -56,7 +58,7 @@ pub fn numbers(rules: &mut Rules) -> Vec<(String, &mut i64)> {
         ("gluten basis", &mut rules.gluten_basis),
         ("last week", &mut rules.last_week),
         ("pairs", &mut rules.pairs),
-        ("chart average bound", &mut rules.chart_average),
+        ("chart plot bound", &mut rules.chart_plot),
         ("chart range bound", &mut rules.chart_range),
         ("chart result bound", &mut rules.chart_result),
         ("text bytes", &mut rules.text_bytes),
@@ -193,9 +195,55 @@ pub enum Wrong {
     ShortSum,
     /// Of several records with the same figure only the last counts.
     FiguresOnce,
+    /// The plot is the mean of the differences, rounded once, halves up.
+    DifferencesRounded,
+    /// The plot is the mean of the differences, rounded once, halves away from zero.
+    DifferencesRoundedAway,
+    /// The plot is the monitor mean minus the original mean.
+    MeansExchanged,
+    /// The original mean's hundredth is cut off.
+    OriginalCutOff,
+    /// The monitor mean's hundredth is cut off.
+    MonitorCutOff,
+    /// An exact half of the original mean goes down.
+    OriginalHalvesDown,
+    /// An exact half of the monitor mean goes down.
+    MonitorHalvesDown,
+    /// Of both means an exact half goes down.
+    MeansHalvesDown,
+    /// An exact half of the original mean goes to the even hundredth.
+    OriginalHalvesToEven,
+    /// An exact half of the monitor mean goes to the even hundredth.
+    MonitorHalvesToEven,
+    /// Of both means an exact half goes to the even hundredth.
+    MeansHalvesToEven,
+    /// The absolute limit is compared with the exact average.
+    AbsoluteOfExact,
+    /// The tolerance limit is compared with the exact averages.
+    ToleranceOfExact,
+    /// A run is one of the exact averages.
+    RunOfExact,
+    /// All limits of the average are compared with the exact averages.
+    LimitsOfExact,
+    /// A set that plots 0 lies on the side of its sum.
+    SideOfSum,
+    /// A plot of 0 lies on the side of the others.
+    ZeroOnASide,
+    /// The run's mean is that of the exact averages.
+    RunMeanOfExact,
+    /// The run's mean is that of all differences of the four sets.
+    RunMeanPooled,
+    /// The run's mean counts a plot as often as its set has pairs.
+    RunMeanWeighted,
+    /// The run's mean is rounded, halves away from zero.
+    RunMeanRounded,
+    /// The run's mean is cut off.
+    RunMeanCutOff,
+    /// The magnitude of a held plot is at most 10000 times the count.
+    HeldTimesCount,
 }
 
-pub const WRONG: [Wrong; 37] = [
+pub const WRONG: [Wrong; 60] = [
     Wrong::OneNumber,
     Wrong::Exchanged,
     Wrong::BeforeCorrected,
@@ -233,6 +281,29 @@ pub const WRONG: [Wrong; 37] = [
     Wrong::Reduced,
     Wrong::ShortSum,
     Wrong::FiguresOnce,
+    Wrong::DifferencesRounded,
+    Wrong::DifferencesRoundedAway,
+    Wrong::MeansExchanged,
+    Wrong::OriginalCutOff,
+    Wrong::MonitorCutOff,
+    Wrong::OriginalHalvesDown,
+    Wrong::MonitorHalvesDown,
+    Wrong::MeansHalvesDown,
+    Wrong::OriginalHalvesToEven,
+    Wrong::MonitorHalvesToEven,
+    Wrong::MeansHalvesToEven,
+    Wrong::AbsoluteOfExact,
+    Wrong::ToleranceOfExact,
+    Wrong::RunOfExact,
+    Wrong::LimitsOfExact,
+    Wrong::SideOfSum,
+    Wrong::ZeroOnASide,
+    Wrong::RunMeanOfExact,
+    Wrong::RunMeanPooled,
+    Wrong::RunMeanWeighted,
+    Wrong::RunMeanRounded,
+    Wrong::RunMeanCutOff,
+    Wrong::HeldTimesCount,
 ];
 
 impl Wrong {
@@ -430,6 +501,141 @@ impl Wrong {
             }
             _ => right.mean,
         }
+    }
+}
+
+impl Wrong {
+    /// The answer in place of the right one to a set, and the chart after it. `past` are the exact averages
+    /// of the held sets that were charted here.
+    pub fn chart_set(
+        self,
+        rules: &Rules,
+        chart: &mut Chart,
+        past: &[i64],
+        week: u32,
+        numbers: &[i32],
+        line: &mut [u8],
+    ) -> Result<ChartValues, u8> {
+        let before = *chart;
+        let rules = self.chart_rules(rules, &before);
+        let right = chart.set(&rules, week, numbers, line)?;
+        let row = &rules.charts[before.row as usize];
+        let set = ChartSet {
+            count: right.count,
+            plot: self.plot(numbers, right.plot),
+            range: right.range,
+        };
+        let mut values = before.judged(row, right.week, set);
+        let sets = plots::plotted(&before, past, set, numbers);
+        self.limits(row, &sets, &mut values);
+        values.run = self.run(row, &sets);
+        values.length = values.write(line);
+        *chart = before;
+        chart.hold(right.week, set);
+        Ok(values)
+    }
+
+    /// The rules by which a chart is sound.
+    fn chart_rules(self, rules: &Rules, chart: &Chart) -> Rules {
+        let mut rules = rules.clone();
+        let within = |set: &ChartSet| {
+            (1..=rules.pairs).contains(&set.count) && set.plot.abs() <= rules.chart_plot * set.count
+        };
+        let held = (0..=4).contains(&chart.held) && chart.held_sets().iter().all(within);
+        if self == Wrong::HeldTimesCount && held {
+            rules.chart_plot *= rules.pairs;
+        }
+        rules
+    }
+
+    /// The plot in place of the right one.
+    fn plot(self, numbers: &[i32], right: i64) -> i64 {
+        let exact = plots::exact(numbers);
+        let (original, monitor): (Rounded, Rounded) = match self {
+            Wrong::DifferencesRounded => return plots::rounded_once(exact),
+            Wrong::DifferencesRoundedAway => {
+                return exact.signum() * plots::rounded_once(exact.abs());
+            }
+            Wrong::MeansExchanged => return -right,
+            Wrong::OriginalCutOff => (cut_off, halves_up),
+            Wrong::MonitorCutOff => (halves_up, cut_off),
+            Wrong::OriginalHalvesDown => (halves_down, halves_up),
+            Wrong::MonitorHalvesDown => (halves_up, halves_down),
+            Wrong::MeansHalvesDown => (halves_down, halves_down),
+            Wrong::OriginalHalvesToEven => (halves_to_even, halves_up),
+            Wrong::MonitorHalvesToEven => (halves_up, halves_to_even),
+            Wrong::MeansHalvesToEven => (halves_to_even, halves_to_even),
+            _ => return right,
+        };
+        let ([originals, monitors], count) = (plots::sums(numbers), numbers.len() as i64 / 2);
+        original(originals, count) - monitor(monitors, count)
+    }
+
+    /// The limits of one set and of two where they are not compared with plots.
+    fn limits(self, row: &ChartRow, sets: &[Plotted], values: &mut ChartValues) {
+        let all = self == Wrong::LimitsOfExact;
+        if all || self == Wrong::AbsoluteOfExact {
+            values.absolute = sets[0].exact.abs() >= SIXTIETHS * row.absolute;
+        }
+        if all || self == Wrong::ToleranceOfExact {
+            let limit = SIXTIETHS * row.tolerance;
+            values.tolerance = sets.get(..2).is_some_and(|two| {
+                two.iter().all(|set| set.exact >= limit)
+                    || two.iter().all(|set| set.exact <= -limit)
+            });
+        }
+    }
+
+    /// Whether the set and some three of the held ones are a run.
+    fn run(self, row: &ChartRow, sets: &[Plotted]) -> bool {
+        let side = |four: &[Plotted]| match self {
+            Wrong::RunOfExact | Wrong::LimitsOfExact | Wrong::SideOfSum => {
+                plots::one_side(four, EXACT)
+            }
+            Wrong::ZeroOnASide => plots::but_for_zeros(four),
+            _ => plots::one_side(four, PLOT),
+        };
+        let count = |four: &[Plotted]| four.iter().map(|set| set.count).sum::<i64>();
+        let mean = |four: &[Plotted]| match self {
+            Wrong::RunOfExact | Wrong::LimitsOfExact | Wrong::RunMeanOfExact => {
+                plots::beyond(four, EXACT) > 4 * SIXTIETHS * row.run
+            }
+            Wrong::RunMeanPooled => {
+                let differences = plots::beyond(four, |set| set.exact * set.count);
+                differences > SIXTIETHS * count(four) * row.run
+            }
+            Wrong::RunMeanWeighted => {
+                plots::beyond(four, |set| set.plot * set.count) > count(four) * row.run
+            }
+            Wrong::RunMeanRounded => (plots::beyond(four, PLOT) + 2) / 4 > row.run,
+            Wrong::RunMeanCutOff => plots::beyond(four, PLOT) / 4 > row.run,
+            _ => plots::beyond(four, PLOT) > 4 * row.run,
+        };
+        let run = |four: &Vec<Plotted>| side(four) && mean(four);
+        plots::fours(sets).iter().any(run)
+    }
+}
+
+/// A way to round a mean, of its sum and count.
+type Rounded = fn(i64, i64) -> i64;
+
+fn cut_off(sum: i64, count: i64) -> i64 {
+    sum / count
+}
+
+fn halves_up(sum: i64, count: i64) -> i64 {
+    (2 * sum + count) / (2 * count)
+}
+
+fn halves_down(sum: i64, count: i64) -> i64 {
+    (2 * sum + count - 1) / (2 * count)
+}
+
+fn halves_to_even(sum: i64, count: i64) -> i64 {
+    let up = halves_up(sum, count);
+    match plots::is_half(sum, count) {
+        true => up - up % 2,
+        false => up,
     }
 }
 

@@ -14,8 +14,8 @@ fn past_set(places: &[i32]) -> PastSet {
 }
 
 fn chart_set(places: &[i32]) -> ChartSet {
-    let [count, sum, range] = [0, 1, 2].map(|place| i64::from(places[place]));
-    ChartSet { count, sum, range }
+    let [count, plot, range] = [0, 1, 2].map(|place| i64::from(places[place]));
+    ChartSet { count, plot, range }
 }
 
 fn line(places: &[i32]) -> Line {
@@ -63,7 +63,7 @@ pub fn station_places(station: &Station) -> StationPlaces {
 }
 
 pub fn chart_places(chart: &Chart) -> ChartPlaces {
-    let set = |set: &ChartSet| [set.count, set.sum, set.range];
+    let set = |set: &ChartSet| [set.count, set.plot, set.range];
     let head = [chart.row, chart.last_week, chart.held].into_iter();
     places(head.chain(chart.sets.iter().flat_map(set)))
 }

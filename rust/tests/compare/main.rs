@@ -16,6 +16,7 @@ mod lots;
 mod markets;
 mod met;
 mod orders;
+mod plots;
 mod readings;
 mod rng;
 mod stations;
@@ -35,6 +36,8 @@ struct Extent {
     /// Each sheet also with its samples in another order, each lot in other records too.
     orders: bool,
     chart_lists: usize,
+    /// The pairs of the charted sets whose means are rounded in every way.
+    pairs: i64,
     texts: usize,
     long_texts: usize,
     handed_in: usize,
@@ -53,6 +56,7 @@ const FULL: Extent = Extent {
     station_lists: 8_000,
     orders: true,
     chart_lists: 5_000,
+    pairs: 5,
     texts: 30_000,
     long_texts: 300,
     handed_in: 8_000,
@@ -70,6 +74,7 @@ const SMALL: Extent = Extent {
     station_lists: 600,
     orders: false,
     chart_lists: 300,
+    pairs: 1,
     texts: 400,
     long_texts: 2,
     handed_in: 600,
@@ -92,6 +97,7 @@ fn compare(trial: &mut Trial, extent: &Extent) -> Result<(), Difference> {
     trial.orders = extent.orders;
     compare_calendar(trial, extent)?;
     compare_lots(trial, extent)?;
+    compare_charts(trial, extent)?;
     lists::openings(trial)?;
     readings::sample(trial, extent.random_floats, extent.float_step)?;
     for _ in 0..extent.station_lists {
@@ -108,9 +114,6 @@ fn compare(trial: &mut Trial, extent: &Extent) -> Result<(), Difference> {
     for round in 0..extent.handed_in {
         unsound::one_place(trial, round % encode::STATION)?;
         unsound::one_chart_place(trial, round % encode::CHART)?;
-    }
-    for _ in 0..extent.chart_lists {
-        charts::list(trial, 20)?;
     }
     for _ in 0..extent.texts {
         texts::single(trial)?;
@@ -144,6 +147,15 @@ fn compare_lots(trial: &mut Trial, extent: &Extent) -> Result<(), Difference> {
         true => lots::longest(trial),
         false => Ok(()),
     }
+}
+
+fn compare_charts(trial: &mut Trial, extent: &Extent) -> Result<(), Difference> {
+    charts::particular(trial)?;
+    charts::roundings(trial, extent.pairs)?;
+    for _ in 0..extent.chart_lists {
+        charts::list(trial, 20)?;
+    }
+    Ok(())
 }
 
 const SEED: u64 = 0x6772_6169_6E01;

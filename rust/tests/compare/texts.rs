@@ -1,10 +1,13 @@
 //! Chart texts: the comparison, and random texts, good and damaged.
 
 use grain::ffi;
-use grain_model::TextRefusal;
 use grain_model::text::{self, INPUT_NAMES};
+use grain_model::{Chart, ChartSet, Rules, TextRefusal};
 
+use crate::charts;
 use crate::lent::{Difference, Lent, same};
+use crate::met::Met;
+use crate::plots;
 use crate::rng::Rng;
 use crate::stations::Trial;
 
@@ -63,18 +66,44 @@ impl Trial {
             format!("refused {} {}\n", refused.refusal.number(), refused.line).into_bytes()
         });
         same(what, printed, text::program(&self.rules, text))?;
-        let met = &mut self.met;
-        met.call("chart text", answer.err().map(|refusal| refusal.number));
-        met.branch_if(answer.is_ok(), "text: accepted");
-        let alone = answer.is_ok() && text.len() == INPUT_NAMES.len();
-        met.branch_if(alone, "text: names line alone");
-        let full = answer.is_ok() && text.len() == 65_536;
-        met.branch_if(full, "text: exactly 65536 bytes");
-        let unended = text.last() != Some(&b'\n');
-        let refused = answer.is_err_and(|refusal| refusal.number == 17);
-        met.branch_if(unended && refused, "text: last line without line feed");
+        let refused = answer.err().map(|refusal| refusal.number);
+        self.met.call("chart text", refused);
+        match refused {
+            None => count_accepted(&mut self.met, text),
+            Some(number) => {
+                let unended = number == 17 && text.last() != Some(&b'\n');
+                self.met
+                    .branch_if(unended, "text: last line without line feed");
+            }
+        }
         Ok(())
     }
+}
+
+/// The branches of an accepted text.
+fn count_accepted(met: &mut Met, text: &[u8]) {
+    met.branch("text: accepted");
+    let alone = text.len() == INPUT_NAMES.len();
+    met.branch_if(alone, "text: names line alone");
+    met.branch_if(text.len() == 65_536, "text: exactly 65536 bytes");
+    for numbers in sets(text) {
+        count_set(met, &numbers);
+    }
+}
+
+/// What a set of an accepted text plots.
+fn count_set(met: &mut Met, numbers: &[i32]) {
+    let (set, exact) = (ChartSet::of(numbers), plots::exact(numbers));
+    let half = plots::sums(numbers).map(|sum| plots::is_half(sum, set.count));
+    met.branch_if(half[0], "text: an original mean a half");
+    met.branch_if(half[1], "text: a monitor mean a half");
+    met.branch_if(set.plot < 0, "text: a plot below zero");
+    let zero = set.plot == 0 && exact != 0;
+    met.branch_if(zero, "text: a plot of 0 whose sum isn't 0");
+    met.branch_if(
+        set.plot != plots::rounded_once(exact),
+        "text: a plot another than the mean of the differences rounded once",
+    );
 }
 
 /// A random text, as it is or damaged, and buffers beside the length it needs.
@@ -107,24 +136,60 @@ fn starts(text: &[u8]) -> usize {
 }
 
 /// A good text of so many weeks.
-pub fn good(rng: &mut Rng, weeks: usize) -> Vec<u8> {
+fn good(rng: &mut Rng, weeks: usize) -> Vec<u8> {
+    let rules = Rules::in_force();
+    let mut chart = Chart::fresh(0);
     let mut text = INPUT_NAMES.to_vec();
     let mut week = rng.pick(&[0, 0, 25, 9900]);
     for _ in 0..weeks {
         week += rng.pick(&[1, 1, 1, 2, 5]);
-        let samples = if rng.chance(50) { 5 } else { rng.range(1, 5) };
-        let bias = rng.range(-25, 25);
-        for sample in 1..=samples {
-            let monitor = match rng.chance(90) {
-                true => rng.range(900, 1900),
-                false => rng.pick(&[0, 10_000, 7, 10, 100]),
-            };
-            let original = (monitor + bias + rng.range(-20, 20)).clamp(0, 10_000);
-            let line = format!("{week} {sample} {original} {monitor}\n");
+        let numbers = match rng.chance(50) {
+            true => charts::a_set(rng, &rules.charts[0], &chart),
+            false => any_set(rng),
+        };
+        for (sample, pair) in (1..).zip(numbers.chunks_exact(2)) {
+            let line = format!("{week} {sample} {} {}\n", pair[0], pair[1]);
             text.extend(line.into_bytes());
         }
+        chart.hold(week, ChartSet::of(&numbers));
     }
     text
+}
+
+/// The numbers of a set with differences of about one size.
+fn any_set(rng: &mut Rng) -> Vec<i32> {
+    let pairs = if rng.chance(50) { 5 } else { rng.range(1, 5) };
+    let bias = rng.range(-25, 25);
+    let mut numbers = Vec::new();
+    for _ in 0..pairs {
+        let monitor = match rng.chance(90) {
+            true => rng.range(900, 1900),
+            false => rng.pick(&[0, 10_000, 7, 10, 100]),
+        };
+        let original = (monitor + bias + rng.range(-20, 20)).clamp(0, 10_000);
+        numbers.extend([original as i32, monitor as i32]);
+    }
+    numbers
+}
+
+/// The sets of an accepted text, by the numbers of each.
+fn sets(text: &[u8]) -> Vec<Vec<i32>> {
+    let mut sets: Vec<Vec<i32>> = Vec::new();
+    let lines = text[INPUT_NAMES.len()..].split(|&byte| byte == b'\n');
+    for line in lines.filter(|line| !line.is_empty()) {
+        let number = |field: &[u8]| {
+            let digits = field.iter();
+            digits.fold(0, |number, digit| 10 * number + i32::from(digit - b'0'))
+        };
+        let fields: Vec<i32> = line.split(|&byte| byte == b' ').map(number).collect();
+        if fields[1] == 1 {
+            sets.push(Vec::new());
+        }
+        if let Some(set) = sets.last_mut() {
+            set.extend(&fields[2..]);
+        }
+    }
+    sets
 }
 
 /// The places where the value lines start.

@@ -12,10 +12,12 @@ use crate::rng::Rng;
 use crate::stations::{Subject, Trial};
 
 /// Numbers that stand beside some edge.
-const EDGES: [i32; 34] = [
+const EDGES: [i32; 37] = [
     i32::MIN,
     i32::MIN + 1,
     -132_001,
+    -10_001,
+    -10_000,
     -1001,
     -1000,
     -2,
@@ -39,6 +41,7 @@ const EDGES: [i32; 34] = [
     1001,
     9999,
     10_000,
+    10_001,
     20_000,
     20_001,
     50_000,
@@ -388,14 +391,19 @@ fn sound_chart(rng: &mut Rng) -> Chart {
         let count = rng.range(1, 5);
         *set = ChartSet {
             count,
-            sum: match rng.below(10) {
-                0 => rng.either_sign(10_000 * count),
-                _ => rng.range(-30 * count, 30 * count),
+            plot: match rng.below(10) {
+                0 => rng.either_sign(10_000),
+                _ => rng.range(-30, 30),
             },
             range: rng.pick(&[0, 39, 40, 59, 60, 20_000]),
         };
     }
     chart
+}
+
+/// A set on a chart that wasn't opened here.
+fn on_chart(trial: &mut Trial, places: ChartPlaces) -> Result<(), Difference> {
+    charts::single(trial, &mut charts::Subject::handed_in(places))
 }
 
 /// A set of the chart that is held.
@@ -429,11 +437,25 @@ const WRONG_CHARTS: &[Wrong<Chart>] = &[
     ("chart: count out of bounds", |rng, chart| {
         held_set(rng, chart).count = rng.pick(&[-1, 0, 6, i32::MIN.into(), i32::MAX.into()]);
     }),
-    ("chart: sum out of bounds", |rng, chart| {
-        let far = rng.pick(&[1, i64::from(i32::MAX) - 50_000]);
-        let sign = rng.pick(&[1, -1]);
-        let set = held_set(rng, chart);
-        set.sum = sign * (10_000 * set.count + far);
+    ("chart: plot 10001", |rng, chart| {
+        held_set(rng, chart).plot = 10_001;
+    }),
+    ("chart: plot -10001", |rng, chart| {
+        held_set(rng, chart).plot = -10_001;
+    }),
+    (
+        "chart: plot out of bounds, within them times the count",
+        |rng, chart| {
+            let count = rng.range(2, 5);
+            let plot = rng.pick(&[10_001, 10_000 * count]);
+            let plot = rng.either_sign(plot);
+            let set = held_set(rng, chart);
+            (set.count, set.plot) = (count, plot);
+        },
+    ),
+    ("chart: plot far out of bounds", |rng, chart| {
+        let far = rng.pick(&[i64::from(i32::MAX), 65_536, 1 << 30]);
+        held_set(rng, chart).plot = rng.pick(&[far, -far, i32::MIN.into()]);
     }),
     ("chart: range out of bounds", |rng, chart| {
         held_set(rng, chart).range = rng.pick(&[-1, 20_001, i32::MIN.into(), i32::MAX.into()]);
@@ -447,7 +469,7 @@ pub fn unsound_chart(trial: &mut Trial) -> Result<(), Difference> {
     let (name, damage) = rng.pick(WRONG_CHARTS);
     damage(rng, &mut chart);
     let before = trial.met.refused(0);
-    charts::single(trial, &mut encode::chart_places(&chart))?;
+    on_chart(trial, encode::chart_places(&chart))?;
     trial.met.branch_if(trial.met.refused(0) > before, name);
     Ok(())
 }
@@ -458,20 +480,20 @@ pub fn spare_chart_places(trial: &mut Trial) -> Result<(), Difference> {
     let mut chart = sound_chart(rng);
     for set in &mut chart.sets[chart.held as usize..] {
         set.count = rng.pick(&EDGES).into();
-        set.sum = rng.pick(&EDGES).into();
+        set.plot = rng.pick(&EDGES).into();
         set.range = rng.pick(&EDGES).into();
     }
-    let mut places = encode::chart_places(&chart);
+    let mut subject = charts::Subject::handed_in(encode::chart_places(&chart));
     for _ in 0..3 {
-        let before = encode::chart(&places);
+        let before = encode::chart(&subject.places);
         let count = trial.met.accepted("chart set");
-        charts::single(trial, &mut places)?;
+        charts::single(trial, &mut subject)?;
         if trial.met.accepted("chart set") == count {
             continue;
         }
         trial.met.branch("chart: hostile spare places, accepted");
         let held = before.held as usize;
-        let after = encode::chart(&places);
+        let after = encode::chart(&subject.places);
         let moves_on = held < 3
             && before.sets[held] != chart::BLANK
             && after.sets[held + 1] == before.sets[held];
@@ -489,7 +511,7 @@ pub fn one_chart_place(trial: &mut Trial, place: usize) -> Result<(), Difference
         let mut places = encode::chart_places(&chart);
         places[place] = edge;
         let before = (trial.met.refused(0), trial.met.accepted("chart set"));
-        charts::single(trial, &mut places)?;
+        on_chart(trial, places)?;
         let refused = trial.met.refused(0) > before.0;
         let accepted = trial.met.accepted("chart set") > before.1;
         let met = &mut trial.met;
@@ -516,5 +538,5 @@ pub fn any_chart(trial: &mut Trial) -> Result<(), Difference> {
         };
     }
     trial.met.branch("chart: any numbers");
-    charts::single(trial, &mut places)
+    on_chart(trial, places)
 }

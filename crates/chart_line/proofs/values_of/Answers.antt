@@ -14,5 +14,5 @@ returns c =
     let chart = c.args.chart in
     let four : length chart.sets ≡ 4 = search rules in
     let newest : take 4 (past_of chart) ≡ past_of chart = take_all 4 (past_of chart) (omega (arith, length-take chart.held chart.sets)) in
-    let sum : to_z w32 (of_z w32 c.args.s.sum) ≡ c.args.s.sum = omega (arith, ints) in
-    rw (c.absolute.ensures, c.tolerance.ensures, c.run.ensures, c.range_absolute.ensures, c.range_tolerance.ensures, c.limits_of.ensures, c.past.ensures, newest, sum)
+    let plot : to_z w32 (of_z w32 c.args.s.plot) ≡ c.args.s.plot = omega (arith, ints) in
+    rw (c.absolute.ensures, c.tolerance.ensures, c.run.ensures, c.range_absolute.ensures, c.range_tolerance.ensures, c.limits_of.ensures, c.past.ensures, newest, plot)

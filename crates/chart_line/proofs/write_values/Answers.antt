@@ -10,8 +10,8 @@ use Rattle.chart_line.proofs.write_values.Goals as goal
 
 pub returns : goal.returns
 returns c =
-    let sum : to_z w32 (of_z w32 c.args.v.sum) ≡ c.args.v.sum = omega (arith, ints) in
-    let sum-text = put_is c.put_signed-c.ensures (λ i. 32 ∷ show_signed (sum i)) in
-    let upto-sum = put_then (put_then c.put_number-a.ensures c.put_field-b.ensures) sum-text in
-    let upto-flags = put_then (put_then upto-sum c.put_field-d.ensures) c.put_flags-e.ensures in
+    let plot : to_z w32 (of_z w32 c.args.v.plot) ≡ c.args.v.plot = omega (arith, ints) in
+    let plot-text = put_is c.put_signed-c.ensures (λ i. 32 ∷ show_signed (plot i)) in
+    let upto-plot = put_then (put_then c.put_number-a.ensures c.put_field-b.ensures) plot-text in
+    let upto-flags = put_then (put_then upto-plot c.put_field-d.ensures) c.put_flags-e.ensures in
     (put_is (put_then upto-flags c.put_byte.ensures) (sym (line_parts c.args.v)), grind (arith, width_5, width_signed, flags_length))

@@ -10,12 +10,12 @@ use Rattle.chart_run.proofs.one_side.Goals as goal
 pub returns-then-all : goal.returns-then-all
 unfolding one_side
 returns-then-all c =
-    let up = all_from_yields_List (λ (s : ChartSet). above s.sum) _ _ c.all.result c.all.ensures.ran (YieldsList-from_slice c.args.four.now c.iter.ensures.rest) (λ x b q k. search (rules, tests)) in
+    let up = all_from_yields_List (λ (s : ChartSet). above s.plot) _ _ c.all.result c.all.ensures.ran (YieldsList-from_slice c.args.four.now c.iter.ensures.rest) (λ x b q k. search (rules, tests)) in
     rw (sym up, c.if-all.true)
 
 pub returns-else-all : goal.returns-else-all
 unfolding one_side
 returns-else-all c =
-    let up = all_from_yields_List (λ (s : ChartSet). above s.sum) _ _ c.all.result c.all.ensures.ran (YieldsList-from_slice c.args.four.now c.iter.ensures.rest) (λ x b q k. search (rules, tests)) in
+    let up = all_from_yields_List (λ (s : ChartSet). above s.plot) _ _ c.all.result c.all.ensures.ran (YieldsList-from_slice c.args.four.now c.iter.ensures.rest) (λ x b q k. search (rules, tests)) in
     rw (sym up, c.if-all.false)
-    (all_from_yields_List (λ (s : ChartSet). below s.sum) _ _ c.all-else-all.result c.all-else-all.ensures.ran (YieldsList-from_slice c.args.four.now c.iter-else-all.ensures.rest) (λ x b q k. search (rules, tests)))
+    (all_from_yields_List (λ (s : ChartSet). below s.plot) _ _ c.all-else-all.result c.all-else-all.ensures.ran (YieldsList-from_slice c.args.four.now c.iter-else-all.ensures.rest) (λ x b q k. search (rules, tests)))

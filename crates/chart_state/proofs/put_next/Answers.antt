@@ -18,8 +18,8 @@ returns c =
     let week : rd c.cast_signed-3.result ≡ pos c.args.week = omega (arith, ints) in
     let held : rd c.cast_signed-4.result ≡ pos (min 4 (natural (place words 2) + 1)) = omega (arith, ints, natural_read f) in
     let count : rd c.cast_signed.result ≡ pos s.count = omega (arith, ints) in
-    let sum : rd s.sum ≡ s.sum = omega (arith, ints) in
+    let plot : rd s.plot ≡ s.plot = omega (arith, ints) in
     let range : rd c.cast_signed-2.result ≡ pos s.range = omega (arith, ints) in
     ap (put_mid 3 12 (set (set words 1 (rd c.cast_signed-3.result)) 2 (rd c.cast_signed-4.result))) c.join.ensures
     ∙ joined words _ _ _ _ _ c.requires.state_len.0
-    ∙ (λ i. place words 0 ∷ week i ∷ held i ∷ count i ∷ sum i ∷ range i ∷ take 9 (drop 3 words))
+    ∙ (λ i. place words 0 ∷ week i ∷ held i ∷ count i ∷ plot i ∷ range i ∷ take 9 (drop 3 words))

@@ -4,7 +4,7 @@ use Rattle.std.proofs.lemmas.List.{length-take-le}
 use Rattle.chart_rules.specs.Calls.{chart_set_of}
 use Rattle.chart_rules.specs.InPlace.{ChartedIn, chart_set_in}
 use Rattle.chart_rules.proofs.Results.{charted_short}
-use Rattle.cases_chart.proofs.four.Goals as goal
+use Rattle.cases_chart.proofs.weeks.Goals as goal
 
 pub slice_bounds-out-end : goal.slice_bounds-out-end
 unfolding chart_set_in chart_set_of
