@@ -982,6 +982,7 @@ static void compare(void)
     compare_charts();
     compare_held_plots();
     compare_texts();
+    uint64_t before_calendar = compared;
     compare_dates();
     compare_working_days();
     uint64_t before_lots = compared;
@@ -997,8 +998,9 @@ static void compare(void)
         if (i != 1 && !moved_refused[i])
             fail("a number was never met by a sheet in another order");
     }
-    printf("%" PRIu64 " calls compared, %" PRIu64 " of them sheets in another order and %" PRIu64 " ship lots, ",
-           compared, moved, compared - before_lots);
+    printf("%" PRIu64 " calls compared, %" PRIu64 " of them sheets in another order, %" PRIu64 " of the calendar and ",
+           compared, moved, before_lots - before_calendar);
+    printf("%" PRIu64 " ship lots, ", compared - before_lots);
     printf("of these %" PRIu64 " in another order and %" PRIu64 " in records of one tonne, no difference; ", lots_moved,
            lots_spelled_out);
     printf("every refusal and every chart limit met; accepted:");

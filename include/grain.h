@@ -40,8 +40,9 @@
  *
  * Charts of layouts 1 and 2: sizes and places are the same, but a held set had the sum of its differences where it has the
  * plot now, and no plot can be computed from a sum. Open the chart's row anew and chart the sets of its newest four weeks
- * again, in their order: that makes the chart that it would be. Number 0 does not tell such a chart, since most sums lie
- * within the bounds of a plot: look at the number that you stored. A chart that holds no set may be used as it is.
+ * again, in their order: that makes the chart that it would be. Number 0 does not tell such a chart, since a sum of up to
+ * 10000 lies within the bounds of a plot: look at the number that you stored. A chart that holds no set may be used as it
+ * is.
  *
  * Stations of layout 2 are as they were. Stations of layout 1: sizes and places are the same, and of a line's phase 0 and 1
  * mean what they did. 2 stood for every line whose check is due and now stands for an adjusted one: where the line was
@@ -261,7 +262,7 @@ struct grain_charted {
     uint32_t range;  /* hundredths */
     uint32_t al;     /* 1 or 0: the plot is at or beyond the absolute limit */
     uint32_t tl;     /* the plot and the one before are at or beyond the tolerance limit, on one side */
-    uint32_t run;    /* this and three of the previous four plots: on one side of zero, their mean beyond the run limit */
+    uint32_t run;    /* this and three of the previous four plots: on one side of 0, their exact mean beyond the limit */
     uint32_t ral;    /* the range is at or above its absolute limit */
     uint32_t rtl;    /* the range and the one before are at or above their tolerance limit */
     uint32_t length; /* of the output line, its line feed included */

@@ -30,7 +30,7 @@ size_facts n e =
     (omega arith, ltb-false 10 n q.1, omega arith)
 
 -- number 21 does not apply
-inside : (z : ℤ) → outside z ≡ false → Within 0 10000 z
+pub inside : (z : ℤ) → outside z ≡ false → Within 0 10000 z
 unfolding outside
 inside z e =
     let p = or_parts (lt_z z (pos 0)) (lt_z (pos 10000) z) e in

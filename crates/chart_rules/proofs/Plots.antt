@@ -151,4 +151,5 @@ plot_near numbers e f =
     (both_near o.mean n.mean o.sum n.sum (length ps) o.not_above o.not_below n.not_above n.not_below)
 
 pub plots_near : PlotNear
-plots_near = record { means = means_near; plot = plot_near }
+unfolding set_of
+plots_near = record { means = means_near; plot = plot_near; most = plot_most }

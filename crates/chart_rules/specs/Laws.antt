@@ -26,13 +26,14 @@ MeanNear results =
     let exact = pos 2 *ℤ total results in
     (rounded ≤ℤ (exact +ℤ n)) × (exact <ℤ (rounded +ℤ n))
 
--- how far rounding moves a set's two means and its plot, the count multiplied out
+-- how far rounding moves a set's two means and its plot, the count multiplied out; and the plot's bound
 pub record PlotNear : Type 0 where
   pub means : (numbers : List ℤ) → bad_size (length numbers) ≡ false → bad_result numbers ≡ false
       → MeanNear (originals (pairs_of numbers)) × MeanNear (monitors (pairs_of numbers))
   -- a plot is less than a hundredth from the set's exact average, the sum of its differences over the count
   pub plot : (numbers : List ℤ) → bad_size (length numbers) ≡ false → bad_result numbers ≡ false
       → let s = set_of numbers in nat_abs (s.plot *ℤ pos s.count -ℤ total (differences (pairs_of numbers))) < s.count
+  pub most : (numbers : List ℤ) → bad_size (length numbers) ≡ false → bad_result numbers ≡ false → nat_abs (set_of numbers).plot ≤ 10000
 
 -- after a set the newest four are held
 abbrev pub NewestFour : Type 0

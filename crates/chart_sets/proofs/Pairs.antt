@@ -15,15 +15,10 @@ use Rattle.whole.proofs.Spelled.{elements, spelled}
 use Rattle.whole.specs.Rounding.{half_up}
 use Rattle.chart_rules.specs.Sets.{Pair, pairs_of, differences, mean_of, plot_of}
 use Rattle.chart_rules.specs.Refusals.{bad_size, outside, bad_result}
-use Rattle.chart_rules.proofs.Bounds.{size_facts}
+use Rattle.chart_rules.proofs.Bounds.{size_facts, inside}
 use Rattle.chart_rules.proofs.Plots.{taken_length}
 
 -- ---- a pair
-
--- 21 does not apply
-inside : (z : ℤ) → outside z ≡ false → Within 0 10000 z
-unfolding outside
-inside z e = grind (arith, ints)
 
 -- 21 applies neither to the two results nor to those behind them
 pub record Good (a b : ℤ) (l : List ℤ) : Type 0 where
