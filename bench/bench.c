@@ -1,6 +1,6 @@
 /* The core beside plain C: first both are given random and hostile calls, a sheet also with its samples in another order,
- * chart sets at every limit of plots and beside it, every day and date of the calendar, a ship lot also in other records,
- * and every byte of their answers and states is compared; then they are timed.
+ * sets of sheets and of charts at every limit and beside it, every day and date of the calendar, a ship lot also in other
+ * records, and every byte of their answers and states is compared; then they are timed.
  *
  *     cc -O2 -Iinclude bench/bench.c bench/plain.c crates/abi/out/libabi.a -o target/bench
  *     target/bench          21 rounds after one to warm up
@@ -8,8 +8,8 @@
  *
  * With -DPLAIN_DIGITS plain C writes a chart line's numbers by hand, not by snprintf.
  *
- * Both sides are compiled apart from this file and called alike. Where the code of a call lies shifts the shortest ones: the
- * same code of a reading took 1.9 ns in one build of the library and 2.2 in another. */
+ * Both sides are compiled apart from this file and called alike. Where the code of a call lies shifts the shortest ones:
+ * the same code of a reading took 1.9 ns in one build of the library and 2.2 in another. */
 #define _POSIX_C_SOURCE 200809L
 
 #include "plain.h"
@@ -132,6 +132,87 @@ static void drop_samples(int32_t *numbers, int samples, int32_t intercept)
     }
 }
 
+/* The numbers of a sheet that keeps all its samples and has this S. */
+static void fill_sum(int32_t *numbers, int samples, int32_t intercept, int32_t sum)
+{
+    for (int left = samples; left > 0; left--) {
+        int32_t *n = numbers + 6 * (samples - left), apart = range(-8, 8);
+        int32_t share = left == 1 ? sum : sum / left + range(-3, 3);
+        sum -= share;
+        n[0] = range(1100, 1800);
+        n[1] = n[0] - intercept + share / 2 + apart;
+        n[2] = n[0] - intercept + share - share / 2 - apart;
+        n[3] = n[4] = n[5] = -1;
+    }
+}
+
+/* What a set is tested for: it alone, with the newest one, with the newest two, with the newest four that aren't zero; or
+ * as a check. */
+enum { ONE, TWO, THREE, FIVE, CHECK, TESTS };
+
+/* The limits of these tests, of wheat's line and of corn's three. */
+static const int32_t set_limits[4][TESTS] = {
+    {10, 7, 5, 3, 5}, {15, 10, 7, 5, 7}, {15, 10, 7, 6, 7}, {35, 25, 20, 15, 20}};
+
+/* The S by which a set of so many results comes to the limit of one of its tests or beside it, mostly of the five. A
+ * damaged line holds any numbers. */
+static int64_t limit_sum(const struct grain_line *line, const int32_t *limits, int32_t results)
+{
+    static const int others[TESTS] = {0, 1, 2, 4, 0};
+    bool due = line->phase == GRAIN_ADJUSTED || line->phase == GRAIN_SHUT;
+    int test = due ? CHECK : one_in(2) ? FIVE : range(ONE, THREE);
+    const struct grain_past_set *sets = test == FIVE ? line->nonzero : line->newest;
+    int64_t sum = 0, count = results;
+    for (int i = 0; i < others[test]; i++) {
+        sum += sets[i].sum;
+        count += sets[i].count;
+    }
+    int64_t limit = limits[test] * count + range(-1, 1);
+    return (sum < 0 || (sum == 0 && one_in(2)) ? -limit : limit) - sum;
+}
+
+/* An S of 0, at a limit or beside it, or a small one, mostly on the side of the newest set that isn't zero. */
+static int32_t some_sum(const struct grain_line *line, const int32_t *limits, int32_t results)
+{
+    int64_t sum = limit_sum(line, limits, results);
+    if (one_in(4))
+        return 0;
+    if (one_in(2) && sum >= -400 && sum <= 400)
+        return (int32_t)sum;
+    int32_t newest = line->nonzero[0].sum;
+    bool below = newest ? (newest < 0) != one_in(12) : one_in(2);
+    return (below ? -1 : 1) * range(1, limits[FIVE] * results);
+}
+
+/* Fills places with sets of a day and before it, newest first: mostly with all results, on one side of zero and within or
+ * beyond the limit of the five; the first or a later one often 14 days old or beside it. */
+static void fill_sets(struct grain_past_set *sets, int places, int32_t day, int samples, int32_t limit, bool zeros)
+{
+    int32_t side = one_in(2) ? -1 : 1, age = one_in(4) ? range(13, 15) : range(0, 2);
+    for (int i = 0; i < places; i++) {
+        int32_t results = one_in(4) ? 2 * range(1, samples) : 2 * samples;
+        int32_t sum = one_in(40) ? 11000 * results : range(1, 2 * limit * results);
+        sets[i].day = day < age ? 0 : day - age;
+        sets[i].sum = zeros && one_in(3) ? 0 : (one_in(12) ? -side : side) * sum;
+        sets[i].count = results;
+        age = one_in(5) && age < 13 ? range(13, 15) : age + range(0, 1);
+    }
+}
+
+/* Opens a line, wheat's or one of corn's, and gives it sets of both kinds, each filled by itself: where one kind is of old
+ * sets, above zero or few, the other need not be. */
+static void arrange(struct grain_station *station, int line)
+{
+    int samples = station->row == GRAIN_ROW_CORN ? 4 : 6;
+    int32_t limit = set_limits[station->row + line][FIVE];
+    struct grain_line *held = &station->lines[line];
+    held->phase = GRAIN_OPEN;
+    held->newest_held = range(1, 2);
+    held->nonzero_held = one_in(4) ? range(0, 3) : 4;
+    fill_sets(held->newest, 2, station->day, samples, limit, true);
+    fill_sets(held->nonzero, 4, station->day, samples, limit, false);
+}
+
 static size_t put(uint8_t *text, size_t at, const char *line)
 {
     size_t length = strlen(line);
@@ -248,6 +329,17 @@ enum { CALLS = 200000, TEXTS = 20000, GUARD = 16, KINDS = 14, NUMBERS = 32 };
 
 static uint64_t gluten_certified, compared, accepted[KINDS], refused[NUMBERS], moved_accepted, moved_refused[8];
 static uint64_t adjusted, shut_nothing_kept, shut_at_bound; /* lines, by sheets */
+static uint64_t opened_by_check[2];                         /* lines, by a set with S 0 and by another */
+/* by line, test and side of zero: sums one below the limit, at it, one above */
+static uint64_t sums_met[4][TESTS][2][3];
+/* tests of the five by how many of the newest sets are valid; those with a zero set among the newest two */
+static uint64_t fives[3], fives_past_zero;
+/* five that are beyond their limit and aren't tested: this one is zero, another is on the other side, one is too old */
+static uint64_t five_with_zero, five_on_both_sides, five_too_old;
+/* the newest sets, and those that aren't zero, that were 14 days old at a test and 15 */
+static uint64_t ages_met[2][2];
+/* certificates by a zero set, the newest one that isn't zero being of another day */
+static uint64_t certified_by_zero;
 static uint64_t lots_moved, lots_spelled_out, halves_up, largest_lots;
 /* sets by count of pairs, and by the remainders of the originals' and the monitors' sum by that count */
 static uint64_t means_met[6][5][5];
@@ -380,21 +472,126 @@ static struct grain_outcome both_sheets(struct guarded_station *by_core, struct 
     return one;
 }
 
-/* Counts what a sheet made of its line; the outcome says check due for an adjusted and for a shut one. */
-static void count_phase(const struct grain_station *station, uint64_t line, const struct grain_outcome *outcome)
+static void count_beside(uint64_t *met, int32_t above)
 {
-    if (!outcome->accepted || outcome->phase != GRAIN_CHECK_DUE)
-        return;
-    int32_t phase = station->lines[line].phase;
-    if (phase != (outcome->change ? GRAIN_ADJUSTED : GRAIN_SHUT))
+    if (above >= -1 && above <= 1)
+        met[above + 1]++;
+}
+
+/* How many sets are at most 14 days old. */
+static int valid_sets(const struct grain_past_set *sets, int held, int32_t day, uint64_t *ages)
+{
+    int valid = 0;
+    for (int i = 0; i < held; i++) {
+        int32_t age = day - sets[i].day;
+        valid += age <= 14;
+        if (age == 14 || age == 15)
+            ages[age - 14]++;
+    }
+    return valid;
+}
+
+static void add_set(struct grain_past_set *sum, const struct grain_past_set *set)
+{
+    sum->sum += set->sum;
+    sum->count += set->count;
+}
+
+static int32_t above_limit(int row, int test, const struct grain_past_set *sum)
+{
+    return abs(sum->sum) - set_limits[row][test] * sum->count;
+}
+
+static bool count_test(int row, int test, const struct grain_past_set *sum)
+{
+    count_beside(sums_met[row][test][sum->sum < 0], above_limit(row, test, sum));
+    return above_limit(row, test, sum) <= 0;
+}
+
+/* Counts a set with the newest four that aren't zero, tested or not; answers whether they are met if they are tested.
+ * newest: how many of the newest sets are valid. */
+static bool count_five(int row, const struct grain_line *then, const struct grain_past_set *set, int newest)
+{
+    int valid = valid_sets(then->nonzero, then->nonzero_held, set->day, ages_met[1]);
+    int above = set->sum > 0, below = set->sum < 0;
+    if (then->nonzero_held < 4)
+        return true;
+    struct grain_past_set sum = *set;
+    for (int i = 0; i < 4; i++) {
+        add_set(&sum, &then->nonzero[i]);
+        above += then->nonzero[i].sum > 0;
+        below += then->nonzero[i].sum < 0;
+    }
+    bool beyond = above_limit(row, FIVE, &sum) > 0;
+    if (valid == 4 && (above == 5 || below == 5)) {
+        fives[newest]++;
+        fives_past_zero += then->newest[0].sum == 0 || (then->newest_held == 2 && then->newest[1].sum == 0);
+        return count_test(row, FIVE, &sum);
+    }
+    five_too_old += beyond && valid < 4 && (above == 5 || below == 5);
+    five_with_zero += beyond && valid == 4 && set->sum == 0 && (above == 4 || below == 4);
+    five_on_both_sides += beyond && valid == 4 && set->sum != 0;
+    return true;
+}
+
+/* Counts a set by its tests, until one is not met; answers whether all are. then: its line before it. */
+static bool count_tests(int row, const struct grain_line *then, const struct grain_past_set *set)
+{
+    struct grain_past_set sum = *set;
+    if (then->phase == GRAIN_ADJUSTED || then->phase == GRAIN_SHUT)
+        return count_test(row, CHECK, &sum);
+    int newest = valid_sets(then->newest, then->newest_held, set->day, ages_met[0]);
+    for (int test = ONE; test <= newest; test++) {
+        if (test > ONE)
+            add_set(&sum, &then->newest[test - 1]);
+        if (!count_test(row, test, &sum))
+            return false;
+    }
+    return count_five(row, then, set, newest);
+}
+
+/* Counts what an accepted sheet was tested for and what it made of its line; the outcome says check due for an adjusted
+ * line and for a shut one. */
+static void count_sheet(const struct grain_station *then, const struct grain_station *now, uint64_t line,
+                        const struct grain_outcome *outcome)
+{
+    struct grain_past_set set = {now->day, outcome->sum, (int32_t)outcome->count};
+    bool met = outcome->count > 0 && count_tests(then->row + (int)line, &then->lines[line], &set);
+    if (met != (outcome->phase == GRAIN_OPEN))
+        fail("a line is open though a test was not met, or is not though all were");
+    int32_t phase = now->lines[line].phase, before = then->lines[line].phase;
+    if (phase != (met ? GRAIN_OPEN : outcome->change ? GRAIN_ADJUSTED : GRAIN_SHUT))
         fail("a line is adjusted without a change or shut with one");
     adjusted += phase == GRAIN_ADJUSTED;
     shut_nothing_kept += phase == GRAIN_SHUT && outcome->count == 0;
     shut_at_bound += phase == GRAIN_SHUT && outcome->count > 0;
+    if (met && (before == GRAIN_ADJUSTED || before == GRAIN_SHUT))
+        opened_by_check[set.sum != 0]++;
 }
 
-/* A sheet; then the same samples in another order on the stations as they were: the core must answer and leave the same, and
- * both_sheets holds plain C to the core. */
+/* Any numbers of a sheet on a line, mostly good ones. */
+static void fill_any_sheet(int32_t *numbers, const struct grain_station *station, uint64_t line)
+{
+    bool used = line < (station->row == GRAIN_ROW_CORN ? 3 : 1);
+    const struct grain_line *held = &station->lines[used ? line : 0];
+    int samples = station->row == GRAIN_ROW_CORN ? 4 : 6, row = (station->row == GRAIN_ROW_CORN) + (used ? (int)line : 0);
+    int32_t intercept = held->intercept;
+    if (intercept < -1000 || intercept > 1000)
+        intercept = 0;
+    if (one_in(2))
+        fill_sum(numbers, samples, intercept, some_sum(held, set_limits[row], 2 * samples));
+    else
+        fill_sheet(numbers, samples, intercept, one_in(4) ? range(-40, 40) : range(-6, 6), true);
+    if (one_in(40))
+        drop_samples(numbers, samples, intercept);
+    for (int wrong = one_in(20) ? range(1, 3) : 0; wrong > 0; wrong--) {
+        int32_t *number = &numbers[range(0, 6 * samples - 1)];
+        *number = one_in(2) ? edge() : -1;
+    }
+}
+
+/* A sheet; then the same samples in another order on the stations as they were: the core must answer and leave the same,
+ * and both_sheets holds plain C to the core. */
 static void compare_sheet(struct guarded_station *by_core, struct guarded_station *by_plain)
 {
     struct grain_station *station = &by_core->station;
@@ -402,20 +599,11 @@ static void compare_sheet(struct guarded_station *by_core, struct guarded_statio
     struct sheet sheet = {0};
     sheet.day = some_day(station);
     sheet.line = some_line(station);
-    int samples = station->row == 1 ? 4 : 6;
-    int32_t intercept = sheet.line < 3 ? station->lines[sheet.line].intercept : 0;
-    if (intercept < -1000 || intercept > 1000)
-        intercept = 0;
-    fill_sheet(sheet.numbers, samples, intercept, one_in(4) ? range(-40, 40) : range(-6, 6), true);
-    if (one_in(40))
-        drop_samples(sheet.numbers, samples, intercept);
-    for (int wrong = one_in(20) ? range(1, 3) : 0; wrong > 0; wrong--) {
-        int32_t *number = &sheet.numbers[range(0, 6 * samples - 1)];
-        *number = one_in(2) ? edge() : -1;
-    }
-    sheet.length = one_in(40) ? (size_t)range(0, 48) : (size_t)(6 * samples);
+    fill_any_sheet(sheet.numbers, station, sheet.line);
+    sheet.length = one_in(40) ? (size_t)range(0, 48) : station->row == GRAIN_ROW_CORN ? 24 : 36;
     struct grain_outcome given = both_sheets(by_core, by_plain, sheet);
-    count_phase(station, sheet.line, &given);
+    if (given.accepted)
+        count_sheet(&then_core.station, station, sheet.line, &given);
     struct sheet moved = sheet;
     move_samples(moved.numbers, moved.length);
     if (memcmp(moved.numbers, sheet.numbers, sizeof sheet.numbers) == 0)
@@ -429,49 +617,71 @@ static void compare_sheet(struct guarded_station *by_core, struct guarded_statio
         moved_refused[then.number]++;
 }
 
+/* A market test's day, line, scan and request. */
+struct market {
+    uint32_t day, scan, asked, kind;
+    uint64_t line;
+    float floats[3];
+    int32_t basis;
+};
+
+static struct grain_certificate both_markets(struct guarded_station *by_core, struct guarded_station *by_plain,
+                                             struct market m)
+{
+    const float *f = m.floats;
+    struct grain_certificate one =
+        core.market(&by_core->station, m.day, m.line, m.scan, f[0], f[1], f[2], m.asked, m.kind, m.basis);
+    struct grain_certificate other =
+        plain.market(&by_plain->station, m.day, m.line, m.scan, f[0], f[1], f[2], m.asked, m.kind, m.basis);
+    same("a market test's answer", &one, &other, sizeof one);
+    same("a market test's station", by_core, by_plain, sizeof *by_core);
+    count(4, &one);
+    return one;
+}
+
 static void compare_market(struct guarded_station *by_core, struct guarded_station *by_plain)
 {
     struct grain_station *station = &by_core->station;
-    uint32_t day = some_day(station), scan = (uint32_t)station->row, kind = (uint32_t)range(0, 3), asked = 0;
-    uint64_t line = some_line(station);
+    struct market m = {.day = some_day(station), .scan = (uint32_t)station->row};
+    m.kind = (uint32_t)range(0, 3);
+    m.line = some_line(station);
     if (one_in(station->row == GRAIN_ROW_WHEAT ? 2 : 20)) {
-        asked = one_in(8) ? GRAIN_GLUTEN_OTHER_CLASS : (uint32_t)range(1, 2);
-        kind = one_in(3) ? kind : GRAIN_STANDARD;
+        m.asked = one_in(8) ? GRAIN_GLUTEN_OTHER_CLASS : (uint32_t)range(1, 2);
+        m.kind = one_in(3) ? m.kind : GRAIN_STANDARD;
     }
     /* where the gluten intercept is rounded at a half */
-    if (asked && one_in(20))
+    if (m.asked && one_in(20))
         by_core->station.lines[0].intercept = by_plain->station.lines[0].intercept = one_in(2) ? 500 : -500;
     if (one_in(20))
-        asked = one_in(2) ? (uint32_t)edge() : (uint32_t)bits();
-    if (station->row == GRAIN_ROW_WHEAT && !one_in(asked ? 8 : 2))
-        scan = GRAIN_WHEAT_GLUTEN;
+        m.asked = one_in(2) ? (uint32_t)edge() : (uint32_t)bits();
+    if (station->row == GRAIN_ROW_WHEAT && !one_in(m.asked ? 8 : 2))
+        m.scan = GRAIN_WHEAT_GLUTEN;
     if (one_in(20))
-        scan = (uint32_t)edge();
+        m.scan = (uint32_t)edge();
     if (one_in(20))
-        kind = (uint32_t)edge();
-    int32_t basis = one_in(10) ? edge() : range(0, 5000);
-    float f[3];
+        m.kind = (uint32_t)edge();
+    m.basis = one_in(10) ? edge() : range(0, 5000);
     for (int i = 0; i < 3; i++) {
-        f[i] = (float)range(0, one_in(8) ? 10100 : 3000) / 100.0f;
+        m.floats[i] = (float)range(0, one_in(8) ? 10100 : 3000) / 100.0f;
         if (one_in(20))
-            f[i] = float_of((uint32_t)bits());
+            m.floats[i] = float_of((uint32_t)bits());
     }
-    struct grain_certificate one =
-        core.market(&by_core->station, day, line, scan, f[0], f[1], f[2], asked, kind, basis);
-    struct grain_certificate other =
-        plain.market(&by_plain->station, day, line, scan, f[0], f[1], f[2], asked, kind, basis);
-    same("a market test's answer", &one, &other, sizeof one);
-    count(4, &one);
-    gluten_certified += asked && one.accepted;
+    struct grain_certificate certificate = both_markets(by_core, by_plain, m);
+    if (!certificate.accepted)
+        return;
+    const struct grain_line *line = &station->lines[m.line];
+    gluten_certified += m.asked != GRAIN_LINE_FIGURE;
+    certified_by_zero += line->newest[0].sum == 0 && line->nonzero_held > 0 && line->nonzero[0].day != line->newest[0].day;
 }
 
-static void compare_repair(struct guarded_station *by_core, struct guarded_station *by_plain)
+static struct grain_answer both_repairs(struct guarded_station *by_core, struct guarded_station *by_plain, uint32_t day)
 {
-    uint32_t day = some_day(&by_core->station);
     struct grain_answer one = core.repair(&by_core->station, day);
     struct grain_answer other = plain.repair(&by_plain->station, day);
     same("a repair's answer", &one, &other, sizeof one);
+    same("a repair's station", by_core, by_plain, sizeof *by_core);
     count(3, &one);
+    return one;
 }
 
 static void compare_open(struct guarded_station *by_core, struct guarded_station *by_plain)
@@ -490,13 +700,15 @@ static void compare_stations(void)
     fill(&kept, sizeof kept);
     for (int i = 0; i < CALLS; i++) {
         by_core = kept;
+        if (one_in(4) && (kept.station.row == GRAIN_ROW_WHEAT || kept.station.row == GRAIN_ROW_CORN))
+            arrange(&by_core.station, kept.station.row == GRAIN_ROW_CORN ? range(0, 2) : 0);
         damage(&by_core.station, sizeof by_core.station / 4);
         bool whole = memcmp(&by_core, &kept, sizeof kept) == 0;
         by_plain = by_core;
         if (i % 200 == 0)
             compare_open(&by_core, &by_plain);
         else if (one_in(20))
-            compare_repair(&by_core, &by_plain);
+            both_repairs(&by_core, &by_plain, some_day(&by_core.station));
         else if (one_in(3))
             compare_market(&by_core, &by_plain);
         else
@@ -504,6 +716,126 @@ static void compare_stations(void)
         same("a station", &by_core, &by_plain, sizeof by_core);
         if (whole || one_in(100))
             kept = by_core;
+    }
+}
+
+/* A repair, a market test and a sheet on a station: all of them are refused by 0, or none is. */
+static void compare_soundness(const struct guarded_station *given, uint64_t line, bool sound)
+{
+    struct guarded_station by_core = *given, by_plain = *given;
+    uint32_t day = (uint32_t)given->station.day, row = (uint32_t)given->station.row;
+    struct sheet sheet = {.day = day, .line = line, .length = row == GRAIN_ROW_CORN ? 24 : 36};
+    fill_sum(sheet.numbers, row == GRAIN_ROW_CORN ? 4 : 6, 0, range(-40, 40));
+    struct grain_answer repair = both_repairs(&by_core, &by_plain, day);
+    by_core = by_plain = *given;
+    struct grain_certificate market =
+        both_markets(&by_core, &by_plain, (struct market){.day = day, .scan = row, .line = line, .floats = {10, 10, 10}});
+    by_core = by_plain = *given;
+    struct grain_outcome outcome = both_sheets(&by_core, &by_plain, sheet);
+    if (repair.accepted != sound || (market.accepted || market.number) != sound || outcome.accepted != sound)
+        fail("a station is refused at its bounds or accepted beyond them");
+}
+
+/* A station of day 1000 with a line, wheat's or one of corn's, that holds so many sets of each kind. What stands behind a
+ * kind's places would pass for another set. */
+static struct guarded_station with_sets(int row, int32_t newest_held, int32_t nonzero_held)
+{
+    static const struct grain_past_set set = {.day = 995, .sum = 2, .count = 4};
+    const struct grain_line full = {
+        .phase = GRAIN_OPEN,
+        .newest_held = 2,
+        .newest = {set, set},
+        .nonzero_held = 4,
+        .nonzero = {set, set, set, set},
+    };
+    struct guarded_station given;
+    fill(&given, sizeof given);
+    given.station = (struct grain_station){.row = row > 0, .day = 1000, .lines = {full, full, full}};
+    struct grain_line *held = &given.station.lines[row ? row - 1 : 0];
+    held->newest_held = newest_held;
+    held->nonzero_held = nonzero_held;
+    return given;
+}
+
+/* Sheets whose S is 0 or brings a test of their line to its limit or beside it. */
+static void compare_sums(void)
+{
+    for (int i = 0; i < CALLS / 4; i++) {
+        int row = i % 4, line = row ? row - 1 : 0, samples = row ? 4 : 6;
+        struct guarded_station by_core = with_sets(row, 1, 0);
+        arrange(&by_core.station, line);
+        struct guarded_station then = by_core, by_plain = by_core;
+        struct sheet sheet = {.line = (uint64_t)line, .length = (size_t)(6 * samples)};
+        sheet.day = (uint32_t)(then.station.day + range(0, 1));
+        fill_sum(sheet.numbers, samples, 0, some_sum(&then.station.lines[line], set_limits[row], 2 * samples));
+        struct grain_outcome outcome = both_sheets(&by_core, &by_plain, sheet);
+        if (!outcome.accepted)
+            fail("a sheet at a limit was refused");
+        count_sheet(&then.station, &by_core.station, sheet.line, &outcome);
+    }
+}
+
+/* Every count of sets of both kinds in every phase, and beside them. */
+static void compare_held_counts(void)
+{
+    for (int i = 0; i < 4 * 6 * 5 * 7; i++) {
+        int row = i % 4, phase = i / 4 % 6 - 1, newest = i / 24 % 5 - 1, nonzero = i / 120 - 1;
+        struct guarded_station given = with_sets(row, newest, nonzero);
+        int line = row ? row - 1 : 0;
+        given.station.lines[line].phase = phase;
+        bool open = newest >= 1 && newest <= 2 && nonzero >= 0 && nonzero <= 4;
+        bool none = newest == 0 && nonzero == 0 && phase >= GRAIN_NEW && phase <= GRAIN_SHUT;
+        compare_soundness(&given, (uint64_t)line, phase == GRAIN_OPEN ? open : none);
+    }
+}
+
+/* What bounds a held set: its day, N and S. */
+enum { DAY_BEFORE, DAY_0, N_2, N_OF_ALL, N_EVEN, S_ABOVE, S_BELOW, S_NOT_0, BOUNDS };
+
+/* Puts the set of a place at a bound, or beyond it; on day 0 those behind it too. */
+static void put_at_bound(struct grain_past_set *sets, int places, int place, int bound, int beyond, int samples)
+{
+    struct grain_past_set *set = &sets[place];
+    switch (bound) {
+    case DAY_BEFORE:
+        set->day = (place ? sets[place - 1].day : 1000) + beyond;
+        break;
+    case DAY_0:
+        for (int i = place; i < places; i++)
+            sets[i].day = -beyond;
+        break;
+    case N_2:
+        set->count = beyond ? 0 : 2;
+        break;
+    case N_OF_ALL:
+        set->count = 2 * samples + 2 * beyond;
+        break;
+    case N_EVEN:
+        set->count += beyond;
+        break;
+    case S_NOT_0:
+        set->sum = beyond ? 0 : -1;
+        break;
+    default:
+        set->sum = (bound == S_BELOW ? -1 : 1) * (11000 * set->count + beyond);
+    }
+}
+
+/* A set of either kind at each bound or beyond it, in every place and with every count of held sets: it is refused by 0
+ * where it is beyond and the place is in use. S 0 is beyond only where sets that aren't zero are held. */
+static void compare_held_sets(void)
+{
+    for (int i = 0; i < 4 * 2 * 5 * 4 * BOUNDS * 2; i++) {
+        int row = i % 4, held = i / 8 % 5, place = i / 40 % 4, bound = i / 160 % BOUNDS, beyond = i / 160 / BOUNDS;
+        bool nonzero = i / 4 % 2;
+        if (!nonzero && (held < 1 || held > 2 || place > 1))
+            continue;
+        struct guarded_station given = nonzero ? with_sets(row, range(1, 2), held) : with_sets(row, held, range(0, 4));
+        int line = row ? row - 1 : 0;
+        struct grain_line *l = &given.station.lines[line];
+        put_at_bound(nonzero ? l->nonzero : l->newest, nonzero ? 4 : 2, place, bound, beyond, row ? 4 : 6);
+        bool sound = !beyond || place >= held || (bound == S_NOT_0 && !nonzero);
+        compare_soundness(&given, (uint64_t)line, sound);
     }
 }
 
@@ -530,12 +862,6 @@ static int32_t three_on_side(const struct grain_chart *chart, int32_t side)
             least = plot;
     }
     return found < 3 ? 0 : found == 3 ? sum : sum - least;
-}
-
-static void count_beside(uint64_t *met, int32_t above)
-{
-    if (above >= -1 && above <= 1)
-        met[above + 1]++;
 }
 
 /* Counts a plot by what its row's limits judge: the plot, the smaller one of it and the last, and the largest sum of four.
@@ -924,6 +1250,26 @@ static void compare_lots(void)
     }
 }
 
+/* Sums lay at every limit of a set's tests and beside it, and sets where another rule of the five would judge otherwise. */
+static void sums_all_met(void)
+{
+    for (int i = 0; i < 4 * TESTS * 2 * 3; i++) {
+        int row = i / 6 / TESTS, test = i / 6 % TESTS, below = i / 3 % 2, above = i % 3;
+        if (!sums_met[row][test][below][above]) {
+            fprintf(stderr, "bench: line %d, test %d, side %d: no sum lay %d above\n", row, test, below, above - 1);
+            exit(1);
+        }
+    }
+    if (!fives[0] || !fives[1] || !fives[2] || !fives_past_zero)
+        fail("no five were tested with so many newest sets valid, or none past a zero set");
+    if (!five_with_zero || !five_on_both_sides || !five_too_old)
+        fail("no five beyond their limit were left out for a zero set, the side or the age of one");
+    if (!ages_met[0][0] || !ages_met[0][1] || !ages_met[1][0] || !ages_met[1][1])
+        fail("no set of a kind was 14 days old, or none 15");
+    if (!opened_by_check[0] || !opened_by_check[1] || !certified_by_zero)
+        fail("no line was opened by a check with S 0, or by another, or no certificate rests on a zero set");
+}
+
 /* Sets lay at all places between two halves, at every limit and beside it, and where another rule of plots would judge
  * otherwise. */
 static void plots_met(void)
@@ -970,25 +1316,9 @@ static void all_met(const char *const calls[KINDS])
         }
 }
 
-static void compare(void)
+/* How many sheets were entered in another order. */
+static uint64_t moved_met(void)
 {
-    static const char *const calls[KINDS] = {
-        "reading", "opening",       "sheet",         "repair",  "market test", "chart opening", "set",
-        "text",    "day from date", "date from day", "weekday", "working day", "results due",   "ship lot",
-    };
-    seed = 1;
-    compare_readings();
-    compare_stations();
-    compare_charts();
-    compare_held_plots();
-    compare_texts();
-    uint64_t before_calendar = compared;
-    compare_dates();
-    compare_working_days();
-    uint64_t before_lots = compared;
-    compare_lots();
-    all_met(calls);
-    plots_met();
     uint64_t moved = moved_accepted;
     if (!moved_accepted)
         fail("no sheet was accepted in another order");
@@ -998,12 +1328,39 @@ static void compare(void)
         if (i != 1 && !moved_refused[i])
             fail("a number was never met by a sheet in another order");
     }
+    return moved;
+}
+
+static void compare(void)
+{
+    static const char *const calls[KINDS] = {
+        "reading", "opening",       "sheet",         "repair",  "market test", "chart opening", "set",
+        "text",    "day from date", "date from day", "weekday", "working day", "results due",   "ship lot",
+    };
+    seed = 1;
+    compare_readings();
+    compare_stations();
+    compare_sums();
+    compare_held_counts();
+    compare_held_sets();
+    compare_charts();
+    compare_held_plots();
+    compare_texts();
+    uint64_t before_calendar = compared;
+    compare_dates();
+    compare_working_days();
+    uint64_t before_lots = compared;
+    compare_lots();
+    all_met(calls);
+    sums_all_met();
+    plots_met();
+    uint64_t moved = moved_met();
     printf("%" PRIu64 " calls compared, %" PRIu64 " of them sheets in another order, %" PRIu64 " of the calendar and ",
            compared, moved, before_lots - before_calendar);
     printf("%" PRIu64 " ship lots, ", compared - before_lots);
     printf("of these %" PRIu64 " in another order and %" PRIu64 " in records of one tonne, no difference; ", lots_moved,
            lots_spelled_out);
-    printf("every refusal and every chart limit met; accepted:");
+    printf("every refusal and every limit of sets and of charts met; accepted:");
     for (int i = 0; i < KINDS; i++)
         printf("%s %s %" PRIu64, i ? "," : "", calls[i], accepted[i]);
     printf("\n");
@@ -1107,22 +1464,23 @@ WORK(sheets_work)
 }
 FOR_BOTH(sheets_work)
 
-/* A station whose lines hold so many sets each, and requests on it. */
+/* A station whose lines hold so many sets each that aren't zero, and the newest two of them as their newest; and requests
+ * on it. */
 static void make_requests(int held)
 {
     if (!plain.open(&the_station, (uint64_t)the_row).accepted)
         fail("no station");
     int lines = the_row == GRAIN_ROW_CORN ? 3 : 1;
     for (int i = 0; i < lines * held; i++) {
-        int32_t numbers[36];
+        int32_t numbers[36], sum = range(1, 30);
         uint32_t day = (uint32_t)(2 + i / lines / 2);
-        fill_sheet(numbers, samples_of(the_row), 0, 0, false);
+        fill_sum(numbers, samples_of(the_row), 0, one_in(2) ? -sum : sum);
         if (plain.sheet(&the_station, day, (uint64_t)(i % lines), numbers, (size_t)(6 * samples_of(the_row))).phase !=
             GRAIN_OPEN)
             fail("a line was adjusted");
     }
     for (int i = 0; i < lines; i++)
-        if (the_station.lines[i].held != held)
+        if (the_station.lines[i].newest_held != (held < 2 ? held : 2) || the_station.lines[i].nonzero_held != held)
             fail("a line holds other sets");
     for (int i = 0; i < INPUTS; i++) {
         requests[i].line = (uint64_t)range(0, the_row == 1 ? 2 : 0);
@@ -1183,7 +1541,8 @@ WORK(repairs_work)
             sum += side->repair(&stations[i], (uint32_t)(10 + i)).accepted;
         *seconds += now() - start;
         for (int i = 0; i < 100; i++)
-            sum += (uint64_t)(stations[i].day + stations[i].lines[2].held + stations[i].lines[1].phase);
+            sum += (uint64_t)(stations[i].day + stations[i].lines[2].newest_held + stations[i].lines[2].nonzero_held +
+                              stations[i].lines[1].phase);
     }
     return sum;
 }
@@ -1459,16 +1818,16 @@ int main(int argc, char **argv)
     make_sheets();
     ROW("sheets, wheat", sheets_work, 20.0 * INPUTS, "a call");
     make_requests(1);
-    ROW("market, wheat, 1 set", market_work, 60.0 * INPUTS, "a call");
+    ROW("market, wheat, 1 sheet", market_work, 60.0 * INPUTS, "a call");
     make_requests(4);
-    ROW("market, wheat, 4 sets", market_work, 60.0 * INPUTS, "a call");
-    ROW("market, gluten, 4 sets", gluten_work, 60.0 * INPUTS, "a call");
+    ROW("market, wheat, 4 sheets", market_work, 60.0 * INPUTS, "a call");
+    ROW("market, gluten, 4 sheets", gluten_work, 60.0 * INPUTS, "a call");
     the_row = GRAIN_ROW_CORN;
     make_sheets();
     ROW("sheets, corn", sheets_work, 20.0 * INPUTS, "a call");
     make_requests(4);
-    ROW("market, corn, 12 sets", market_work, 60.0 * INPUTS, "a call");
-    ROW("repairs, corn, 12 sets", repairs_work, 60000, "a call");
+    ROW("market, corn, 12 sheets", market_work, 60.0 * INPUTS, "a call");
+    ROW("repairs, corn, 12 sheets", repairs_work, 60000, "a call");
     ROW("repairs, corn, nothing held", repairs_again_work, 80000, "a call");
     ROW("openings", openings_work, 200000, "a call");
     make_floats();

@@ -1,4 +1,5 @@
-/* The rules of docs/SPECIFICATION.md in plain C over the structs of grain.h. Written from the rules, shares nothing with the core. */
+/* The rules of docs/SPECIFICATION.md in plain C over the structs of grain.h. Written from the rules, it shares nothing with
+ * the core. */
 #include "plain.h"
 
 #include <stdbool.h>
@@ -25,23 +26,34 @@ static const struct product products[2] = {
 
 enum { LAST_DAY = 99999, MOST_SAMPLES = 6 };
 
-static bool sound_line(const struct grain_line *line, int32_t samples, int32_t last)
+static bool sound_set(const struct grain_past_set *set, int32_t samples, int32_t last)
+{
+    if (set->day < 0 || set->day > last)
+        return false;
+    if (set->count < 2 || set->count > 2 * samples || set->count % 2)
+        return false;
+    return set->sum <= 11000 * set->count && set->sum >= -11000 * set->count;
+}
+
+static bool sound_line(const struct grain_line *line, int32_t samples, int32_t today)
 {
     if (line->intercept < -1000 || line->intercept > 1000)
         return false;
-    if (line->phase == GRAIN_OPEN ? line->held < 1 || line->held > 4 : line->held != 0)
+    if (line->phase != GRAIN_OPEN)
+        return line->phase >= GRAIN_NEW && line->phase <= GRAIN_SHUT && line->newest_held == 0 && line->nonzero_held == 0;
+    if (line->newest_held < 1 || line->newest_held > 2 || line->nonzero_held < 0 || line->nonzero_held > 4)
         return false;
-    if (line->phase < GRAIN_NEW || line->phase > GRAIN_SHUT)
-        return false;
-    for (int i = 0; i < line->held; i++) {
-        const struct grain_past_set *set = &line->past[i];
-        if (set->day < 0 || set->day > last)
+    int32_t last = today;
+    for (int i = 0; i < line->newest_held; i++) {
+        if (!sound_set(&line->newest[i], samples, last))
             return false;
-        if (set->count < 2 || set->count > 2 * samples || set->count % 2)
+        last = line->newest[i].day;
+    }
+    last = today;
+    for (int i = 0; i < line->nonzero_held; i++) {
+        if (line->nonzero[i].sum == 0 || !sound_set(&line->nonzero[i], samples, last))
             return false;
-        if (set->sum > 11000 * set->count || set->sum < -11000 * set->count)
-            return false;
-        last = set->day;
+        last = line->nonzero[i].day;
     }
     return true;
 }
@@ -88,6 +100,15 @@ struct grain_answer plain_open(struct grain_station *station, uint64_t row)
     return (struct grain_answer){.accepted = 1};
 }
 
+/* Takes a line's sets away: none is held, and their places are 0. */
+static void empty(struct grain_line *line)
+{
+    line->newest_held = 0;
+    memset(line->newest, 0, sizeof line->newest);
+    line->nonzero_held = 0;
+    memset(line->nonzero, 0, sizeof line->nonzero);
+}
+
 struct grain_answer plain_repair(struct grain_station *station, uint32_t day)
 {
     if (!sound_station(station))
@@ -98,8 +119,7 @@ struct grain_answer plain_repair(struct grain_station *station, uint32_t day)
         struct grain_line *line = &station->lines[i];
         if (line->phase == GRAIN_OPEN)
             line->phase = GRAIN_NEW;
-        line->held = 0;
-        memset(line->past, 0, sizeof line->past);
+        empty(line);
     }
     station->day = (int32_t)day;
     return (struct grain_answer){.accepted = 1};
@@ -171,7 +191,7 @@ struct grain_certificate plain_market(struct grain_station *station, uint32_t da
         return no_certificate(11);
     if (held->phase != GRAIN_OPEN)
         return no_certificate(not_open(held));
-    if ((int32_t)day - held->past[0].day > 7)
+    if ((int32_t)day - held->newest[0].day > 7)
         return no_certificate(13);
     int32_t above = value * (10000 - basis), below = 10000 - standard;
     if (above > 10000 * below)
@@ -179,7 +199,7 @@ struct grain_certificate plain_market(struct grain_station *station, uint32_t da
     station->day = (int32_t)day;
     return (struct grain_certificate){
         .accepted = 1,
-        .day = (uint32_t)held->past[0].day,
+        .day = (uint32_t)held->newest[0].day,
         .intercept = intercept,
         .basis = basis,
         .figure = (uint32_t)((value + 5) / 10),
@@ -276,40 +296,72 @@ static bool check_due(const struct grain_line *line)
     return line->phase == GRAIN_ADJUSTED || line->phase == GRAIN_SHUT;
 }
 
-/* Whether every average due is met; *sum becomes the sums of the last test made. */
-static bool meets(const struct grain_line *line, const struct limits *limits, struct grain_past_set *sum)
+/* How many of the newest sets are at most 14 days old. */
+static int valid_newest(const struct grain_line *line, int32_t day)
 {
-    if (sum->count == 0)
+    int valid = 0;
+    while (valid < line->newest_held && day - line->newest[valid].day <= 14)
+        valid++;
+    return valid;
+}
+
+/* Whether the newest four sets that aren't zero are valid, of which the last is the oldest, and all five with this one lie
+ * on one side of zero. */
+static bool five_due(const struct grain_line *line, const struct grain_past_set *set)
+{
+    if (line->nonzero_held < 4 || set->day - line->nonzero[3].day > 14)
+        return false;
+    int up = set->sum > 0, down = set->sum < 0;
+    for (int i = 0; i < 4; i++) {
+        up += line->nonzero[i].sum > 0;
+        down += line->nonzero[i].sum < 0;
+    }
+    return up == 5 || down == 5;
+}
+
+/* Whether every average due of a set is met; *sum becomes the sums of the last test made. */
+static bool meets(const struct grain_line *line, const struct limits *limits, const struct grain_past_set *set,
+                  struct grain_past_set *sum)
+{
+    *sum = *set;
+    if (set->count == 0)
         return false;
     if (check_due(line))
         return within(sum, limits->check);
-    int valid = 0;
-    while (valid < line->held && sum->day - line->past[valid].day <= 14)
-        valid++;
-    int up = sum->sum > 0, down = sum->sum < 0;
     if (!within(sum, limits->one))
         return false;
+    int valid = valid_newest(line, set->day);
     if (valid >= 1) {
-        add(sum, &line->past[0]);
+        add(sum, &line->newest[0]);
         if (!within(sum, limits->two))
             return false;
     }
     if (valid >= 2) {
-        add(sum, &line->past[1]);
+        add(sum, &line->newest[1]);
         if (!within(sum, limits->three))
             return false;
     }
-    if (valid < 4)
+    if (!five_due(line, set))
         return true;
-    for (int i = 0; i < 4; i++) {
-        up += line->past[i].sum > 0;
-        down += line->past[i].sum < 0;
-    }
-    if (up < 5 && down < 5)
-        return true;
-    add(sum, &line->past[2]);
-    add(sum, &line->past[3]);
+    *sum = *set;
+    for (int i = 0; i < 4; i++)
+        add(sum, &line->nonzero[i]);
     return within(sum, limits->five);
+}
+
+/* A set that met joins the newest, and those that aren't zero unless it is zero. */
+static void join(struct grain_line *line, const struct grain_past_set *set)
+{
+    line->newest[1] = line->newest[0];
+    line->newest[0] = *set;
+    if (line->newest_held < 2)
+        line->newest_held++;
+    if (set->sum == 0)
+        return;
+    memmove(line->nonzero + 1, line->nonzero, 3 * sizeof line->nonzero[0]);
+    line->nonzero[0] = *set;
+    if (line->nonzero_held < 4)
+        line->nonzero_held++;
 }
 
 /* The change by an average rounded with halves away from zero, 0 where nothing was kept or the intercept would leave its
@@ -343,23 +395,18 @@ struct grain_outcome plain_sheet(struct grain_station *restrict station, uint32_
     if (number)
         return (struct grain_outcome){.number = number};
 
-    struct grain_past_set sum = set;
+    struct grain_past_set sum;
     int32_t change = 0;
-    if (meets(held, limits, &sum)) {
+    if (meets(held, limits, &set, &sum)) {
         if (check_due(held))
-            memset(held->past, 0, sizeof held->past);
-        else
-            memmove(held->past + 1, held->past, 3 * sizeof held->past[0]);
-        held->past[0] = set;
-        if (held->held < 4)
-            held->held++;
+            empty(held);
+        join(held, &set);
         held->phase = GRAIN_OPEN;
     } else {
         change = change_by(&sum, held->intercept);
         held->intercept += change;
         held->phase = change ? GRAIN_ADJUSTED : GRAIN_SHUT;
-        held->held = 0;
-        memset(held->past, 0, sizeof held->past);
+        empty(held);
     }
     station->day = (int32_t)day;
     return (struct grain_outcome){
@@ -683,7 +730,8 @@ struct grain_day plain_day_from_date(uint32_t year, uint32_t month, uint32_t day
     return (struct grain_day){.accepted = 1, .day = found};
 }
 
-/* A year of 366 days and a month of 31 are the longest: counted by these, year and month come out right or one too early. */
+/* A year of 366 days and a month of 31 are the longest: counted by these, year and month come out right or one too
+ * early. */
 struct grain_date plain_date_from_day(uint32_t day)
 {
     if (day > LAST_DAY)

@@ -32,7 +32,7 @@ static const struct side sides[2] = {
      plain_date_from_day, plain_day_from_date, plain_working_day, plain_ship_lot},
 };
 
-/* A station with four sets on each of its lines, of days 1 to 4. */
+/* A station whose lines each hold four sets that aren't zero, of days 1 to 4, and the newest two of them as its newest. */
 static struct grain_station opened(const struct side *side, uint64_t row)
 {
     struct grain_station station;
@@ -50,7 +50,7 @@ static struct grain_station opened(const struct side *side, uint64_t row)
     return station;
 }
 
-/* Market tests: four held sets for wheat, twelve for corn. */
+/* Market tests on such lines: one of wheat, three of corn. */
 static long market(const struct side *side, uint64_t row, long count)
 {
     struct grain_station station = opened(side, row);
@@ -74,7 +74,7 @@ static long market_corn(const struct side *side, long count)
     return market(side, GRAIN_ROW_CORN, count);
 }
 
-/* Wheat sheets on a line that stays open with four sets. */
+/* Wheat sheets on such a line, which stays open; each is tested with the newest set, the newest two, and the four. */
 static long sheet(const struct side *side, long count)
 {
     struct grain_station station = opened(side, GRAIN_ROW_WHEAT);
@@ -89,7 +89,7 @@ static long sheet(const struct side *side, long count)
     return accepted;
 }
 
-/* Repairs of a corn station with twelve held sets; the copy is counted with each. */
+/* Repairs of a corn station with three such lines; the copy is counted with each. */
 static long repair(const struct side *side, long count)
 {
     const struct grain_station whole = opened(side, GRAIN_ROW_CORN);

@@ -4,8 +4,8 @@
  * State. A station and a chart are plain structs of int32_t in the caller's memory, opened by a call and then changed in
  * place. They hold no pointers: copy, store and compare them as you like, and store GRAIN_LAYOUT beside them. Whatever
  * comes back from storage under this layout's number may be handed in: a state with a field out of its bounds, or sheets
- * out of the order of their days, is refused by number 0. Lines that the row doesn't use and sets beyond `held` may hold
- * anything; they are not looked at. The calendar and ship lots have no state.
+ * out of the order of their days, is refused by number 0. Lines that the row doesn't use and sets beyond the held ones may
+ * hold anything; they are not looked at. The calendar and ship lots have no state.
  *
  * Answers. Every call answers a struct by value. `accepted` is 1, or 0 for a refused call; `number` is then the reason
  * (GRAIN_REFUSED_...). The first that applies is answered, in the order of the numbers, 23 and 24 standing between 8 and 9,
@@ -33,23 +33,31 @@
 #include <stddef.h>
 #include <stdint.h>
 
-#define GRAIN_VERSION "0.7.0"
+#define GRAIN_VERSION "0.8.0"
 
 /* Changes whenever struct grain_station or struct grain_chart does, or what their fields mean: a stored state of another
  * layout is not to be used before it is carried over.
  *
- * Charts of layouts 1 and 2: sizes and places are the same, but a held set had the sum of its differences where it has the
- * plot now, and no plot can be computed from a sum. Open the chart's row anew and chart the sets of its newest four weeks
- * again, in their order: that makes the chart that it would be. Number 0 does not tell such a chart, since a sum of up to
- * 10000 lies within the bounds of a plot: look at the number that you stored. A chart that holds no set may be used as it
- * is.
+ * Stations of layouts 1 to 3 are shorter: 47 int32_t, not 68. Row, day, and of each line intercept and phase are as they
+ * were; then a line had `held`, 0 to 4, and four past sets, newest first. Of the held ones the first two are `newest` now,
+ * and those whose sum isn't 0 are `nonzero`; what is not in use is 0. That is all, unless four are held, at least one of
+ * them with sum 0, and the oldest of the four is not more than 14 days older than the station's day: then sets before these
+ * four may still count for the test of five, and layout 3 did not keep them. Write behind the others, as far as there is
+ * room, the line's newest sets before these four whose sum isn't 0, from the laboratory's sheets since the last repair and
+ * the last sheet that didn't meet. Without them a test of five may be left out that is due. Carry over only what the
+ * version before takes: a station that it refuses by 0 is damaged.
  *
- * Stations of layout 2 are as they were. Stations of layout 1: sizes and places are the same, and of a line's phase 0 and 1
- * mean what they did. 2 stood for every line whose check is due and now stands for an adjusted one: where the line was
- * shut, that is where its newest accepted sheet gave change 0, write GRAIN_SHUT. Where that is not known, leave 2: sheets
- * and certificates are the same either way, only 25 is told in place of 26. Layout 1 has no phase 3: a station with it is
- * damaged, and its line was not shut. */
-#define GRAIN_LAYOUT 3
+ * Stations of layout 1, besides: 0 and 1 mean of a phase what they did. 2 stood for every line whose check is due and now
+ * stands for an adjusted one: where the line was shut, that is where its newest accepted sheet gave change 0, write
+ * GRAIN_SHUT. Where that is not known, leave 2: sheets and certificates are the same either way, only 25 is told in place
+ * of 26. Layout 1 has no phase 3: a station with it is damaged, and its line was not shut.
+ *
+ * Charts of layout 3 are as they were. Charts of layouts 1 and 2: sizes and places are the same, but a held set had the sum
+ * of its differences where it has the plot now, and no plot can be computed from a sum. Open the chart's row anew and chart
+ * the sets of its newest four weeks again, in their order: that makes the chart that it would be. Number 0 does not tell
+ * such a chart, since a sum of up to 10000 lies within the bounds of a plot: look at the number that you stored. A chart
+ * that holds no set may be used as it is. */
+#define GRAIN_LAYOUT 4
 
 #ifdef __cplusplus
 #define GRAIN_STATIC_ASSERT(test, text) static_assert(test, text)
@@ -105,12 +113,14 @@ struct grain_past_set {
     int32_t count; /* N: twice the number of samples kept (two results each) */
 };
 
-/* One constituent of the grain. */
+/* One constituent of the grain. Number 0 asks each kind of its sets by itself and does not compare the two. */
 struct grain_line {
-    int32_t intercept;             /* added to every reading, hundredths, -1000 to 1000 */
-    int32_t phase;                 /* GRAIN_NEW, GRAIN_OPEN, GRAIN_ADJUSTED or GRAIN_SHUT */
-    int32_t held;                  /* how many of past are in use: 1 to 4 on an open line, else 0 */
-    struct grain_past_set past[4]; /* the newest sheets that met, newest first */
+    int32_t intercept;                /* added to every reading, hundredths, -1000 to 1000 */
+    int32_t phase;                    /* GRAIN_NEW, GRAIN_OPEN, GRAIN_ADJUSTED or GRAIN_SHUT */
+    int32_t newest_held;              /* how many of newest are in use: 1 or 2 on an open line, else 0 */
+    struct grain_past_set newest[2];  /* the newest sheets that met, newest first */
+    int32_t nonzero_held;             /* how many of nonzero are in use: 0 to 4 on an open line, else 0 */
+    struct grain_past_set nonzero[4]; /* the newest sheets that met and whose sum isn't 0, newest first */
 };
 
 struct grain_station {
@@ -510,12 +520,14 @@ GRAIN_SIZE(grain_past_set, 12);
 GRAIN_AT(grain_past_set, day, 0);
 GRAIN_AT(grain_past_set, sum, 4);
 GRAIN_AT(grain_past_set, count, 8);
-GRAIN_SIZE(grain_line, 60);
+GRAIN_SIZE(grain_line, 88);
 GRAIN_AT(grain_line, intercept, 0);
 GRAIN_AT(grain_line, phase, 4);
-GRAIN_AT(grain_line, held, 8);
-GRAIN_AT(grain_line, past, 12);
-GRAIN_SIZE(grain_station, 188);
+GRAIN_AT(grain_line, newest_held, 8);
+GRAIN_AT(grain_line, newest, 12);
+GRAIN_AT(grain_line, nonzero_held, 36);
+GRAIN_AT(grain_line, nonzero, 40);
+GRAIN_SIZE(grain_station, 272);
 GRAIN_AT(grain_station, row, 0);
 GRAIN_AT(grain_station, day, 4);
 GRAIN_AT(grain_station, lines, 8);

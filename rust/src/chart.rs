@@ -108,8 +108,9 @@ impl Chart {
         store::stored(&self.places())
     }
 
-    /// Takes up a chart stored in layout 3, or one without sets stored in layout 1 or 2. Numbers that are no
-    /// sound chart are taken up as well, and refused by every call ([`Refusal::Unsound`]).
+    /// Takes up a chart stored in layout 4 or 3, which are alike, or one without sets stored in layout 1 or 2.
+    /// Numbers that are no sound chart are taken up as well, and refused by every call
+    /// ([`Refusal::Unsound`]).
     ///
     /// In layouts 1 and 2 a set holds the sum of its differences, from which no plot can be computed. A chart
     /// with such sets is an error ([`RestoreError::ChartOfSums`]): open its row anew and chart the sets of its
@@ -128,10 +129,11 @@ impl Chart {
     /// # Ok::<(), RestoreError>(())
     /// ```
     pub fn from_bytes(bytes: &[u8]) -> Result<Chart, RestoreError> {
-        let (found, places) = store::restored(bytes, &[store::FIRST, store::SECOND, LAYOUT])?;
+        let layouts = [store::FIRST, store::SECOND, store::THIRD, LAYOUT];
+        let (found, places) = store::restored(bytes, &layouts)?;
         let chart = Chart::from_places(places);
         match (found, chart.state.held) {
-            (LAYOUT, _) | (_, 0) => Ok(chart),
+            (store::THIRD | LAYOUT, _) | (_, 0) => Ok(chart),
             _ => Err(RestoreError::ChartOfSums {
                 found,
                 row: chart.row(),

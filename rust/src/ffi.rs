@@ -5,12 +5,13 @@
 //! where a call is refused; only a refused text carries its text line.
 
 pub use crate::lot::Sublot;
+pub use crate::station::PastSet;
 
 /// Changes whenever [`Station`] or [`Chart`] does, or what their fields mean.
-pub const LAYOUT: u32 = 3;
+pub const LAYOUT: u32 = 4;
 
 /// Places (numbers) of a station.
-pub const STATION: usize = 47;
+pub const STATION: usize = 68;
 /// Places (numbers) of a chart.
 pub const CHART: usize = 15;
 
@@ -22,24 +23,17 @@ pub const SHUT: i32 = 3;
 /// The phase of an [`Outcome`] that isn't [`OPEN`]: the line is adjusted or shut.
 pub const CHECK_DUE: i32 = 2;
 
-/// The result of an accepted sheet: day, S in hundredths of a percent, N.
-#[repr(C)]
-#[derive(Clone, Copy, Debug, Default, PartialEq, Eq, Hash)]
-pub struct PastSet {
-    pub day: i32,
-    pub sum: i32,
-    pub count: i32,
-}
-
-/// A line: its intercept in hundredths of a percent, its phase, and the first `held` of `past`,
-/// newest first.
+/// A line: its intercept in hundredths of a percent, its phase, the first `newest_held` of `newest` and the
+/// first `nonzero_held` of `nonzero`, newest first.
 #[repr(C)]
 #[derive(Clone, Copy, Debug, Default, PartialEq, Eq, Hash)]
 pub struct Line {
     pub intercept: i32,
     pub phase: i32,
-    pub held: i32,
-    pub past: [PastSet; 4],
+    pub newest_held: i32,
+    pub newest: [PastSet; 2],
+    pub nonzero_held: i32,
+    pub nonzero: [PastSet; 4],
 }
 
 /// A station: its product row, the day of its last accepted call, and its lines.
@@ -197,8 +191,11 @@ macro_rules! layout {
 }
 
 layout!(PastSet: 12, day: 0, sum: 4, count: 8);
-layout!(Line: 60, intercept: 0, phase: 4, held: 8, past: 12);
-layout!(Station: 188, row: 0, day: 4, lines: 8);
+layout!(
+    Line: 88,
+    intercept: 0, phase: 4, newest_held: 8, newest: 12, nonzero_held: 36, nonzero: 40
+);
+layout!(Station: 272, row: 0, day: 4, lines: 8);
 layout!(HeldSet: 12, count: 0, plot: 4, range: 8);
 layout!(Chart: 60, row: 0, week: 4, held: 8, sets: 12);
 layout!(Answer: 8, accepted: 0, number: 4);
@@ -228,7 +225,7 @@ impl PastSet {
         [self.day, self.sum, self.count]
     }
 
-    fn of(places: &[i32]) -> PastSet {
+    pub(crate) fn of(places: &[i32]) -> PastSet {
         PastSet {
             day: places[0],
             sum: places[1],
@@ -252,13 +249,29 @@ impl HeldSet {
 }
 
 impl Line {
+    /// Places of a line.
+    const PLACES: usize = 22;
+
+    fn places(&self) -> [i32; Line::PLACES] {
+        let mut places = [0; Line::PLACES];
+        places[..3].copy_from_slice(&[self.intercept, self.phase, self.newest_held]);
+        let newest = self.newest.map(PastSet::places);
+        places[3..9].copy_from_slice(newest.as_flattened());
+        places[9] = self.nonzero_held;
+        let nonzero = self.nonzero.map(PastSet::places);
+        places[10..].copy_from_slice(nonzero.as_flattened());
+        places
+    }
+
     fn of(places: &[i32]) -> Line {
-        let set = |set: usize| PastSet::of(&places[3 + 3 * set..]);
+        let set = |start: usize| PastSet::of(&places[start..]);
         Line {
             intercept: places[0],
             phase: places[1],
-            held: places[2],
-            past: [0, 1, 2, 3].map(set),
+            newest_held: places[2],
+            newest: [3, 6].map(set),
+            nonzero_held: places[9],
+            nonzero: [10, 13, 16, 19].map(set),
         }
     }
 }
@@ -268,12 +281,8 @@ impl Station {
     pub fn places(&self) -> [i32; STATION] {
         let mut places = [0; STATION];
         places[..2].copy_from_slice(&[self.row, self.day]);
-        for (line, places) in self.lines.iter().zip(places[2..].chunks_exact_mut(15)) {
-            places[..3].copy_from_slice(&[line.intercept, line.phase, line.held]);
-            for (set, places) in line.past.iter().zip(places[3..].chunks_exact_mut(3)) {
-                places.copy_from_slice(&set.places());
-            }
-        }
+        let lines = self.lines.map(|line| line.places());
+        places[2..].copy_from_slice(lines.as_flattened());
         places
     }
 
@@ -282,7 +291,7 @@ impl Station {
         Station {
             row: places[0],
             day: places[1],
-            lines: [2, 17, 32].map(|start| Line::of(&places[start..])),
+            lines: [2, 24, 46].map(|start| Line::of(&places[start..])),
         }
     }
 }

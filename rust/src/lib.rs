@@ -13,15 +13,18 @@
 //! [`ship_lot`] states a lot from the records of its sublots.
 //!
 //! Stations and charts are plain numbers without pointers. `to_bytes` stores one with the number of
-//! its layout ([`LAYOUT`]) in front, `from_bytes` takes it up again. A station stored in layout 2 is taken
-//! up as it is, one stored in layout 1 is carried over by [`Station::from_layout_1`]; a chart with sets
-//! stored in either has to be charted anew ([`RestoreError::ChartOfSums`]). They may go to any thread; a call borrows its own alone.
+//! its layout ([`LAYOUT`]) in front, `from_bytes` takes it up again. A station stored in layout 2 or 3 is
+//! carried over by it too, unless sets that it didn't keep may still count ([`RestoreError::OlderSets`]): then
+//! by [`Station::from_layout_3`]. One stored in layout 1 is carried over by [`Station::from_layout_1`]. A chart
+//! stored in layout 3 is taken up as it is, one with sets stored in layout 1 or 2 has to be charted anew
+//! ([`RestoreError::ChartOfSums`]). They may go to any thread; a call borrows its own alone.
 
 #![deny(unsafe_op_in_unsafe_fn)]
 
 mod calendar;
 mod chart;
 pub mod ffi;
+mod former;
 mod lot;
 mod refusal;
 mod station;

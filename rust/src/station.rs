@@ -1,13 +1,14 @@
 //! Stations: reference sheets, repairs and market tests.
 
 use crate::ffi::{self, LAYOUT};
+use crate::former;
 use crate::refusal::{Refusal, answer};
 use crate::store::{self, RestoreError};
 
 /// A station of one grain: its lines' intercepts, phases and past sets, and the day of its last
 /// accepted call.
 ///
-/// The state is 47 numbers, which may be stored ([`Station::to_bytes`]) and taken up again
+/// The state is 68 numbers, which may be stored ([`Station::to_bytes`]) and taken up again
 /// ([`Station::from_bytes`]). A refused call leaves it as it was.
 ///
 /// ```
@@ -54,8 +55,9 @@ pub enum LinePhase {
     Shut,
 }
 
-/// A past set of a line.
-#[derive(Clone, Copy, Debug, PartialEq, Eq, Hash)]
+/// A past set of a line: the result of a sheet that met every average due.
+#[repr(C)]
+#[derive(Clone, Copy, Debug, Default, PartialEq, Eq, Hash)]
 pub struct PastSet {
     pub day: i32,
     /// S, the sum of the kept deviations, in hundredths of a percent.
@@ -64,14 +66,24 @@ pub struct PastSet {
     pub count: i32,
 }
 
+impl PastSet {
+    /// The test of five passes over it.
+    pub(crate) fn is_zero(&self) -> bool {
+        self.sum == 0
+    }
+}
+
 /// A line as the station holds it.
 #[derive(Clone, Debug, PartialEq, Eq, Hash)]
 pub struct Line {
     /// Hundredths of a percent.
     pub intercept: i32,
     pub phase: LinePhase,
-    /// At most four, newest first.
-    pub past: Vec<PastSet>,
+    /// The newest past sets, at most two, newest first: for the tests of two and three sets, and for the
+    /// day of a certificate.
+    pub newest: Vec<PastSet>,
+    /// The newest past sets whose S is not 0, at most four, newest first: for the test of five.
+    pub nonzero: Vec<PastSet>,
 }
 
 /// What an accepted sheet did.
@@ -192,21 +204,7 @@ impl LinePhase {
             LinePhase::Adjusted | LinePhase::Shut => Phase::CheckDue,
         }
     }
-
-    /// The place of this layout for one of layout 1, which has 2 for every line whose check is due. Its 3 is
-    /// no phase and stays none.
-    fn carried_over(place: i32, shut: bool) -> i32 {
-        match (place, shut) {
-            (2, true) => ffi::SHUT,
-            (2, false) => ffi::ADJUSTED,
-            (ffi::SHUT, _) => NO_PHASE,
-            (other, _) => other,
-        }
-    }
 }
-
-/// A number that is no phase in any layout.
-const NO_PHASE: i32 = -1;
 
 impl Scan {
     /// The kind and the three floats of the C interface.
@@ -266,13 +264,17 @@ impl Station {
         answer(said.accepted, said.number).map(|()| Station { state })
     }
 
-    /// The station to be stored: the layout's number and the 47 numbers, little-endian.
+    /// The station to be stored: the layout's number and the 68 numbers, little-endian.
     pub fn to_bytes(&self) -> [u8; Station::BYTES] {
         store::stored(&self.places())
     }
 
-    /// Takes up a station stored in layout 3, or in layout 2: stations are alike in both. Numbers that are no
-    /// sound station are taken up as well, and refused by every call ([`Refusal::Unsound`]).
+    /// Takes up a station stored in layout 4. Numbers that are no sound station are taken up as well, and
+    /// refused by every call ([`Refusal::Unsound`]).
+    ///
+    /// One stored in layout 2 or 3 is carried over where it says all, else it is an error and
+    /// [`Station::from_layout_3`] takes it up ([`RestoreError::OlderSets`]). An unsound one is an error
+    /// ([`RestoreError::Unsound`]).
     ///
     /// ```
     /// use grain::{RestoreError, Station};
@@ -280,11 +282,70 @@ impl Station {
     /// let station = Station::open(Station::CORN).unwrap();
     /// let bytes = station.to_bytes();
     /// assert_eq!(Station::from_bytes(&bytes)?, station);
+    ///
+    /// // A fresh station of corn as layout 3 has it: 47 numbers.
+    /// let mut bytes = [0; 4 + 4 * 47];
+    /// (bytes[0], bytes[4]) = (3, 1);
+    /// assert_eq!(Station::from_bytes(&bytes)?, station);
     /// # Ok::<(), RestoreError>(())
     /// ```
     pub fn from_bytes(bytes: &[u8]) -> Result<Station, RestoreError> {
-        let (_, places) = store::restored(bytes, &[store::SECOND, LAYOUT])?;
-        Ok(Station::from_places(places))
+        match store::layout_of(bytes) {
+            Some(found) if former::TELLING.contains(&found) => {
+                former::restored(bytes, former::TELLING, [false; 3], None)
+                    .map(|state| Station { state })
+            }
+            _ => store::restored(bytes, &[LAYOUT]).map(|(_, places)| Station::from_places(places)),
+        }
+    }
+
+    /// Takes up a station stored in layout 3 or 2, where a line holds its newest four past sets, zero ones
+    /// (S = 0) among them. Now a line holds its newest two, and its newest four that aren't zero.
+    ///
+    /// A line leaves something open if it holds four, at least one of them zero, and the oldest is at most
+    /// 14 days old on the station's day: then sets before the four may still count for the test of five.
+    /// `older` are these sets of each line, from the laboratory's sheets since the last repair and the last
+    /// sheet that didn't meet: newest first and without a gap. Those with S = 0 are passed over, and no more
+    /// are taken than there is room for. What is taken has to fit before the four
+    /// ([`RestoreError::WrongOlderSets`]). For a line that leaves nothing open they are not looked at.
+    ///
+    /// Where they aren't known, an empty list will do. Then a test of five may be left out that is due, as long
+    /// as the line holds fewer than four sets that aren't zero; one that isn't due is never made.
+    ///
+    /// An unsound station is an error ([`RestoreError::Unsound`]). Lines that the row lacks are blank: nothing
+    /// looks at them.
+    ///
+    /// ```
+    /// use grain::{PastSet, Phase, RestoreError, Station};
+    ///
+    /// // Wheat of layout 3 on day 20: line 0 is open and holds sets of S 37, 0, 37 and 37.
+    /// let mut numbers = [0_i32; 1 + 47];
+    /// numbers[..6].copy_from_slice(&[3, 0, 20, 0, 1, 4]);
+    /// numbers[6..12].copy_from_slice(&[20, 37, 12, 19, 0, 12]);
+    /// numbers[12..18].copy_from_slice(&[17, 37, 12, 16, 37, 12]);
+    /// let bytes: Vec<u8> = numbers.iter().flat_map(|number| number.to_le_bytes()).collect();
+    /// assert_eq!(Station::from_bytes(&bytes), Err(RestoreError::OlderSets { line: 0 }));
+    ///
+    /// // The one before them was of day 13.
+    /// let older = PastSet { day: 13, sum: 37, count: 12 };
+    /// let mut station = Station::from_layout_3(&bytes, [&[older], &[], &[]])?;
+    /// let line = station.line(0).unwrap();
+    /// assert_eq!((line.newest.len(), line.nonzero.len(), line.nonzero[3]), (2, 4, older));
+    ///
+    /// // S 37: with the four that aren't zero the average is above 0.03 percent.
+    /// let other = [1300, 1303, 1303, -1, -1, -1].repeat(5);
+    /// let sheet = [&[1300, 1303, 1304, -1, -1, -1], &other[..]].concat();
+    /// let outcome = station.sheet(20, 0, &sheet).unwrap();
+    /// assert_eq!((outcome.sum, outcome.change), (37, -3));
+    ///
+    /// // Without it there are three only, and the test of five is left out.
+    /// let mut station = Station::from_layout_3(&bytes, [&[]; 3])?;
+    /// assert_eq!(station.sheet(20, 0, &sheet).unwrap().phase, Phase::Open);
+    /// # Ok::<(), RestoreError>(())
+    /// ```
+    pub fn from_layout_3(bytes: &[u8], older: [&[PastSet]; 3]) -> Result<Station, RestoreError> {
+        former::restored(bytes, former::TELLING, [false; 3], Some(older))
+            .map(|state| Station { state })
     }
 
     /// Takes up a station stored in layout 1, where a line whose check is due doesn't tell whether it was
@@ -292,36 +353,34 @@ impl Station {
     /// is looked at where the check is due, and false will do where it isn't known: sheets and certificates
     /// are the same either way, and only [`Refusal::AdjustedLine`] is told for [`Refusal::ShutLine`].
     ///
-    /// Numbers that are no sound station are taken up as well, and refused by every call. A phase 3, which
-    /// layout 1 doesn't have, is no shut line then: it is taken up as -1.
+    /// `older` are the sets before those that a line holds, as in [`Station::from_layout_3`]. An unsound
+    /// station is an error ([`RestoreError::Unsound`]); so is one with a phase 3, which layout 1 doesn't have.
     ///
     /// ```
     /// use grain::{Asked, Basis, LinePhase, Refusal, RestoreError, Scan, Station};
     ///
-    /// // A station of layout 1, its line's check due (2).
-    /// let mut bytes = Station::open(Station::WHEAT).unwrap().to_bytes();
-    /// bytes[0] = 1;
-    /// bytes[4 + 4 * 3] = 2;
+    /// // A station of layout 1, 47 numbers, its line's check due (2).
+    /// let mut bytes = [0; 4 + 4 * 47];
+    /// (bytes[0], bytes[4 + 4 * 3]) = (1, 2);
     /// assert_eq!(Station::from_bytes(&bytes), Err(RestoreError::Layout { found: 1 }));
     ///
-    /// let adjusted = Station::from_layout_1(&bytes, [false; 3])?;
+    /// let adjusted = Station::from_layout_1(&bytes, [false; 3], [&[]; 3])?;
     /// assert_eq!(adjusted.line(0).unwrap().phase, LinePhase::Adjusted);
-    /// let mut shut = Station::from_layout_1(&bytes, [true, false, false])?;
+    /// let mut shut = Station::from_layout_1(&bytes, [true, false, false], [&[]; 3])?;
     /// assert_eq!(shut.line(0).unwrap().phase, LinePhase::Shut);
     /// let refused = shut.market(1, 0, Scan::Wheat(13.5), Asked::LineFigure, Basis::Dry);
     /// assert_eq!(refused, Err(Refusal::ShutLine));
     /// # Ok::<(), RestoreError>(())
     /// ```
-    pub fn from_layout_1(bytes: &[u8], shut: [bool; 3]) -> Result<Station, RestoreError> {
-        let (_, places) = store::restored(bytes, &[store::FIRST])?;
-        let mut station = Station::from_places(places);
-        for (line, shut) in station.state.lines.iter_mut().zip(shut) {
-            line.phase = LinePhase::carried_over(line.phase, shut);
-        }
-        Ok(station)
+    pub fn from_layout_1(
+        bytes: &[u8],
+        shut: [bool; 3],
+        older: [&[PastSet]; 3],
+    ) -> Result<Station, RestoreError> {
+        former::restored(bytes, &[store::FIRST], shut, Some(older)).map(|state| Station { state })
     }
 
-    /// The station of 47 numbers. Any may be given: what is no sound station is refused by every
+    /// The station of 68 numbers. Any may be given: what is no sound station is refused by every
     /// call ([`Refusal::Unsound`]).
     ///
     /// ```
@@ -339,8 +398,8 @@ impl Station {
         }
     }
 
-    /// The station's 47 numbers: row, day, then for each line intercept, phase, held and four past
-    /// sets of day, S and N.
+    /// The station's 68 numbers: row, day, then for each line intercept, phase, how many newest sets are
+    /// held and two of day, S and N, how many non-zero ones and four of them.
     pub fn places(&self) -> [i32; ffi::STATION] {
         self.state.places()
     }
@@ -364,21 +423,16 @@ impl Station {
     /// let station = Station::open(Station::WHEAT)?;
     /// let protein = station.line(0).unwrap();
     /// assert_eq!((protein.intercept, protein.phase), (0, LinePhase::New));
-    /// assert!(protein.past.is_empty());
+    /// assert!(protein.newest.is_empty() && protein.nonzero.is_empty());
     /// # Ok::<(), grain::Refusal>(())
     /// ```
     pub fn line(&self, line: usize) -> Option<Line> {
         let line = self.state.lines.get(line)?;
-        let held = line.past.get(..usize::try_from(line.held).ok()?)?;
-        let set = |set: &ffi::PastSet| PastSet {
-            day: set.day,
-            sum: set.sum,
-            count: set.count,
-        };
         Some(Line {
             intercept: line.intercept,
             phase: LinePhase::of(line.phase)?,
-            past: held.iter().map(set).collect(),
+            newest: held(line.newest_held, &line.newest)?,
+            nonzero: held(line.nonzero_held, &line.nonzero)?,
         })
     }
 
@@ -528,6 +582,12 @@ impl Station {
     }
 }
 
+/// The first `count` of the sets; none if there are fewer.
+fn held(count: i32, sets: &[PastSet]) -> Option<Vec<PastSet>> {
+    let held = sets.get(..usize::try_from(count).ok()?)?;
+    Some(held.to_vec())
+}
+
 /// The whole hundredth of a percent nearest to an analyser's value, an exact half going up.
 ///
 /// ```
@@ -573,7 +633,7 @@ mod tests {
         ] {
             assert_eq!(Phase::of(defined(name) as i32), Some(phase), "{name}");
         }
-        for none in [NO_PHASE, 4, i32::MIN, i32::MAX] {
+        for none in [-1, 4, i32::MIN, i32::MAX] {
             assert_eq!(LinePhase::of(none), None);
         }
     }

@@ -6,7 +6,7 @@ use std::process::Command;
 
 use grain::{
     Asked, Basis, Chart, Date, LAST_DAY, LAYOUT, LOT_RECORDS, LinePhase, LotStatement, Outcome,
-    Phase, Refusal, RestoreError, Scan, Station, Sublot, Weekday, WheatClass, chart_text,
+    PastSet, Phase, Refusal, RestoreError, Scan, Station, Sublot, Weekday, WheatClass, chart_text,
     chart_text_into, date_from_day, day_from_date, results_due, ship_lot, weekday, working_day,
 };
 
@@ -133,17 +133,23 @@ fn the_header_has_the_limits() {
 fn a_stored_station_goes_on() {
     let mut station = Station::open(Station::WHEAT).unwrap();
     let sheet = [1300, 1303, 1303, -1, -1, -1].repeat(6);
+    let zeros = [1300, 1300, 1300, -1, -1, -1].repeat(6);
     station.sheet(4, 0, &sheet).unwrap();
-    station.sheet(5, 0, &sheet).unwrap();
+    station.sheet(5, 0, &zeros).unwrap();
     let mut again = Station::from_bytes(&station.to_bytes()).unwrap();
     assert_eq!(again, station);
     assert_eq!(Station::from_places(station.places()), station);
     assert_eq!(again.sheet(6, 0, &sheet), station.sheet(6, 0, &sheet));
     assert_eq!(again, station);
     let line = station.line(0).unwrap();
-    assert_eq!((line.phase, line.past.len()), (LinePhase::Open, 3));
-    let newest = line.past[0];
-    assert_eq!((newest.day, newest.sum, newest.count), (6, 36, 12));
+    let set = |day, sum| PastSet {
+        day,
+        sum,
+        count: 12,
+    };
+    assert_eq!((line.intercept, line.phase), (0, LinePhase::Open));
+    assert_eq!(line.newest, [set(6, 36), set(5, 0)]);
+    assert_eq!(line.nonzero, [set(6, 36), set(4, 36)]);
     assert_eq!(station.line(3), None);
 }
 
@@ -157,7 +163,7 @@ fn counted<const LEN: usize>() -> [i32; LEN] {
 #[test]
 fn stored_bytes_are_the_places() {
     let mut expected = LAYOUT.to_le_bytes().to_vec();
-    expected.extend(counted::<47>().iter().flat_map(|place| place.to_le_bytes()));
+    expected.extend(counted::<68>().iter().flat_map(|place| place.to_le_bytes()));
     let station = Station::from_places(counted());
     assert_eq!(station.places(), counted());
     assert_eq!(station.to_bytes().as_slice(), expected);
@@ -175,15 +181,15 @@ fn stored_bytes_are_the_places() {
 fn other_bytes_are_not_restored() {
     let station = Station::open(Station::CORN).unwrap().to_bytes();
     let length = |found, needed| RestoreError::Length { found, needed };
-    for few in [0, 3, 4, 191] {
+    for few in [0, 3, 4, 192, 275] {
         let error = Station::from_bytes(&station[..few]);
-        assert_eq!(error, Err(length(few, 192)));
+        assert_eq!(error, Err(length(few, 276)));
     }
     let more = [&station[..], &[0]].concat();
-    assert_eq!(Station::from_bytes(&more), Err(length(193, 192)));
+    assert_eq!(Station::from_bytes(&more), Err(length(277, 276)));
     let chart = Chart::open(Chart::SOYBEAN_OIL).unwrap().to_bytes();
-    assert_eq!(Station::from_bytes(&chart), Err(length(64, 192)));
-    assert_eq!(Chart::from_bytes(&station), Err(length(192, 64)));
+    assert_eq!(Station::from_bytes(&chart), Err(length(64, 276)));
+    assert_eq!(Chart::from_bytes(&station), Err(length(276, 64)));
     for found in [0, 1, LAYOUT + 1, LAYOUT << 8, u32::MAX] {
         let mut other = station;
         other[..4].copy_from_slice(&found.to_le_bytes());
@@ -194,11 +200,11 @@ fn other_bytes_are_not_restored() {
     }
     let text = RestoreError::Layout { found: 9 }.to_string();
     assert!(
-        text.contains("layout 9") && text.contains("layout 3"),
+        text.contains("layout 9") && text.contains("layout 4"),
         "{text}"
     );
-    let text = length(64, 192).to_string();
-    assert!(text.contains("64") && text.contains("192"), "{text}");
+    let text = length(64, 276).to_string();
+    assert!(text.contains("64") && text.contains("276"), "{text}");
 }
 
 /// Stored places as a layout before this one has them.
@@ -210,123 +216,23 @@ fn in_layout(layout: i32, places: &[i32]) -> Vec<u8> {
         .collect()
 }
 
-/// The places of the three lines' phases.
-const PHASES: [usize; 3] = [3, 18, 33];
-
-/// Of layout 1 only the phases of lines whose check is due are read otherwise: by what is said of each.
+/// Charts are alike in layouts 3 and 4.
 #[test]
-fn a_station_of_layout_1_is_carried_over() {
-    for shut in [
-        [false; 3],
-        [true, false, false],
-        [false, true, false],
-        [false, false, true],
-        [true; 3],
-    ] {
-        for phases in [
-            [2, 2, 2],
-            [0, 1, 2],
-            [2, 0, 1],
-            [1, 2, 0],
-            [-1, 4, i32::MAX],
-        ] {
-            let mut stored: [i32; 47] = counted();
-            let mut expected = stored;
-            for (line, place) in PHASES.into_iter().enumerate() {
-                stored[place] = phases[line];
-                expected[place] = match phases[line] {
-                    2 if shut[line] => 3,
-                    other => other,
-                };
-            }
-            let station = Station::from_layout_1(&in_layout(1, &stored), shut).unwrap();
-            assert_eq!(station.places(), expected, "{phases:?} {shut:?}");
-        }
-    }
-}
-
-/// Stations are alike in layouts 2 and 3.
-#[test]
-fn a_station_of_layout_2_is_read() {
-    let bytes = in_layout(2, &counted::<47>());
-    let station = Station::from_bytes(&bytes).unwrap();
-    assert_eq!(station.places(), counted());
+fn a_chart_of_layout_3_is_read() {
+    let bytes = in_layout(3, &counted::<15>());
+    let chart = Chart::from_bytes(&bytes).unwrap();
+    assert_eq!(chart.places(), counted());
     // Stored now it is of this layout.
-    let stored = station.to_bytes();
+    let stored = chart.to_bytes();
     assert_eq!(
         (&stored[..4], &stored[4..]),
-        (&[3, 0, 0, 0][..], &bytes[4..])
+        (&[4, 0, 0, 0][..], &bytes[4..])
     );
     let length = RestoreError::Length {
-        found: 100,
-        needed: 192,
+        found: 60,
+        needed: 64,
     };
-    assert_eq!(Station::from_bytes(&bytes[..100]), Err(length));
-}
-
-/// A station of layout 1 goes on, and its lines tell what they are told to have been.
-#[test]
-fn a_station_of_layout_1_goes_on() {
-    let mut places = Station::open(Station::CORN).unwrap().places();
-    places[1] = 5;
-    places[PHASES[0]] = 2;
-    places[PHASES[1]] = 2;
-    let bytes = in_layout(1, &places);
-    let mut station = Station::from_layout_1(&bytes, [false, true, true]).unwrap();
-    let scan = Scan::Corn {
-        protein: 8.5,
-        oil: 4.1,
-        starch: 71.2,
-    };
-    let mut refused = |line| {
-        let answer = station.market(5, line, scan, Asked::LineFigure, Basis::Standard);
-        answer.unwrap_err()
-    };
-    assert_eq!(refused(0), Refusal::AdjustedLine);
-    assert_eq!(refused(1), Refusal::ShutLine);
-    assert_eq!(refused(2), Refusal::NewLine);
-    // Stored now it is of this layout.
-    let again = Station::from_bytes(&station.to_bytes()).unwrap();
-    assert_eq!(again, station);
-    let carried = Station::from_layout_1(&station.to_bytes(), [false; 3]);
-    assert_eq!(carried, Err(RestoreError::Layout { found: LAYOUT }));
-}
-
-/// 3 is no phase of layout 1: such a station stays damaged and isn't taken for a shut line.
-#[test]
-fn a_damaged_station_of_layout_1_is_refused() {
-    let mut places = Station::open(Station::WHEAT).unwrap().places();
-    places[PHASES[0]] = 3;
-    for shut in [false, true] {
-        let mut station = Station::from_layout_1(&in_layout(1, &places), [shut; 3]).unwrap();
-        assert_eq!(station.line(0), None);
-        assert_eq!(station.repair(1), Err(Refusal::Unsound));
-    }
-}
-
-#[test]
-fn other_bytes_are_not_carried_over() {
-    let bytes = in_layout(1, &Station::open(Station::WHEAT).unwrap().places());
-    let read = |bytes: &[u8]| Station::from_layout_1(bytes, [false; 3]);
-    assert!(read(&bytes).is_ok());
-    for found in [0, 3, 4, 191] {
-        let length = RestoreError::Length { found, needed: 192 };
-        assert_eq!(read(&bytes[..found]), Err(length));
-    }
-    for found in [0, 2, LAYOUT, LAYOUT + 1, u32::MAX] {
-        let mut other = bytes.clone();
-        other[..4].copy_from_slice(&found.to_le_bytes());
-        assert_eq!(read(&other), Err(RestoreError::Layout { found }));
-    }
-    // Each message is true of the call that gives it.
-    let text = |found| RestoreError::Layout { found }.to_string();
-    assert!(text(1).contains("`Station::from_layout_1`"), "{}", text(1));
-    for found in [2, LAYOUT] {
-        let text = text(found);
-        assert!(text.contains(&format!("layout {found}")), "{text}");
-        assert!(text.contains("`Station::from_bytes`"), "{text}");
-        assert!(text.contains("nothing is to be carried over"), "{text}");
-    }
+    assert_eq!(Chart::from_bytes(&bytes[..60]), Err(length));
 }
 
 /// Charts of layouts 1 and 2 hold sums: they are not read unless they hold no set, and the error says
@@ -451,13 +357,16 @@ fn a_damaged_station_is_refused() {
 
 #[test]
 fn numbers_of_no_line_are_none() {
-    let mut places = [0; 47];
-    places[3] = 4;
-    places[19] = 5;
-    let station = Station::from_places(places);
-    assert_eq!(station.line(0), None);
-    assert_eq!(station.line(1), None);
-    assert!(station.line(2).is_some());
+    // Of line 1: its phase, how many newest sets it holds, how many that aren't zero.
+    for (place, most) in [(25, 3), (26, 2), (33, 4)] {
+        for (number, is_line) in [(0, true), (most, true), (most + 1, false), (-1, false)] {
+            let mut places = [0; 68];
+            places[place] = number;
+            let station = Station::from_places(places);
+            assert_eq!(station.line(1).is_some(), is_line, "{place} {number}");
+            assert!(station.line(0).is_some() && station.line(2).is_some());
+        }
+    }
 }
 
 #[test]
@@ -521,7 +430,7 @@ fn samples_in_any_order() {
     let (answer, station) = in_every_order([third, kept, dropped]);
     let outcome = answer.unwrap();
     assert_eq!((outcome.sum, outcome.count), (7, 10));
-    let newest = station.line(0).unwrap().past[0];
+    let newest = station.line(0).unwrap().newest[0];
     assert_eq!((newest.day, newest.sum, newest.count), (2, 7, 10));
     // A third missing, a number out of range, an again pair that isn't due: the lowest number.
     let no_third = [1250, 1240, 1275, -1, -1, -1];

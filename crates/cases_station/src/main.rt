@@ -11,6 +11,7 @@ mod phases;
 mod say;
 mod sheets;
 mod worked;
+mod zeros;
 
 use std::io;
 
@@ -37,5 +38,11 @@ fn main(rt: HostRuntime) -> io::Result<()> {
     lists::shut_by_none(&rt)?;
     lists::shut_by_bound(&rt)?;
     lists::corn(&rt)?;
-    lists::five_sets(&rt)
+    lists::five_sets(&rt)?;
+    zeros::between(&rt)?;
+    zeros::at_hand(&rt)?;
+    zeros::newest(&rt)?;
+    zeros::ages(&rt)?;
+    zeros::emptied(&rt)?;
+    zeros::unsound(&rt)
 }

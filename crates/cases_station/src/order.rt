@@ -12,9 +12,9 @@ struct Came {
     left: Station,
 }
 
-const ALIKE: &str = "  the answers are alike, and so are the 47 places after each";
+const ALIKE: &str = "  the answers are alike, and so are the 68 places after each";
 
-const NOT_ALIKE: &str = "  the answers or the 47 places after each are not alike";
+const NOT_ALIKE: &str = "  the answers or the 68 places after each are not alike";
 
 // A sheet of the three samples in this order, and of three more.
 fn entered(rt: &impl Print, s: Station, samples: [Sample; 3]) -> io::Result<Came> {

@@ -7,8 +7,6 @@ ghost use Rattle.chart_rules.specs.Charts.{past_of};
 ghost use Rattle.chart_rules.specs.Refusals.{number_of};
 ghost use Rattle.chart_rules.specs.Judging.{text_number};
 
-use whole::held;
-
 // ---- the rules' numbers
 
 // The chart rows, 0 to 3.
@@ -33,7 +31,10 @@ pub const LARGEST_PLOT: u32 = LARGEST_RESULT;
 pub const LARGEST_RANGE: u32 = 20000;
 
 // The sets that a chart holds at most.
-pub const HELD_SETS: usize = held::SETS as usize;
+pub const MOST_SETS: u32 = 4;
+
+// The same, as an array's length.
+pub const HELD_SETS: usize = MOST_SETS as usize;
 
 // The bytes that a buffer has for a line.
 pub const LINE_ROOM: usize = 40;

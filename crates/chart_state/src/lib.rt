@@ -8,8 +8,8 @@ ghost use Rattle.chart_rules.specs.Charts.{sound as sound_of, fresh_chart};
 ghost use Rattle.chart_rules.specs.Places.{chart_set_at, chart_at, fresh_places, next_places};
 
 use chart_rules::{
-    CHART_PLACES, Chart, ChartSet, FIRST_SET, HELD_PLACE, HELD_SETS, LAST_WEEK, NO_ROW, ROW_PLACE,
-    ROWS, WEEK_PLACE,
+    CHART_PLACES, Chart, ChartSet, FIRST_SET, HELD_PLACE, HELD_SETS, LAST_WEEK, MOST_SETS, NO_ROW,
+    ROW_PLACE, ROWS, WEEK_PLACE,
 };
 use whole::held;
 
@@ -81,7 +81,7 @@ pub fn sound(chart: Chart) -> bool
 {
     chart.row < ROWS
         && chart.week <= LAST_WEEK
-        && chart.held <= held::SETS
+        && chart.held <= MOST_SETS
         && chart.past().iter().all(chart_sets::sound_set)
 }
 
@@ -103,9 +103,7 @@ pub fn put_next(state: &mut [i32], week: u32, s: ChartSet)
     requires fits { (week < 2147483648) × ((s.count < 2147483648) × (s.range < 2147483648)) }
     ensures { state.new ≡ next_places state.old week s }
 {
-    let held = held::one_more(state[HELD_PLACE].cast_unsigned());
     let set = [s.count.cast_signed(), s.plot, s.range.cast_signed()];
     state[WEEK_PLACE] = week.cast_signed();
-    state[HELD_PLACE] = held.cast_signed();
-    held::join(&mut state[FIRST_SET..CHART_PLACES], set);
+    held::join(&mut state[HELD_PLACE..CHART_PLACES], MOST_SETS, set);
 }

@@ -1,1 +1,1 @@
-pub mod Fifteen
+pub mod Written

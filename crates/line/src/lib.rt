@@ -1,29 +1,31 @@
-// A line in its 15 places (docs/SPECIFICATION.md, "A line between sheets"): read, and written after a sheet or a repair.
+// A line in its 22 places (docs/SPECIFICATION.md, "A line between sheets"): read, and written after a sheet or a repair.
 
 #![tactic(auto)]
 
-ghost use Rattle.std.specs.Prelude.{◌≡◌, ◌+◌, ◌<◌, ◌≤◌, length, pos, take};
+ghost use Rattle.std.specs.Prelude.{◌≡◌, ◌+◌, ◌<◌, ◌≤◌, length, pos, ◌+ℤ◌, take};
 ghost use Rattle.whole.specs.Bounds.{Within};
 ghost use Rattle.whole.specs.Places.{place};
 ghost use Rattle.station_rules.specs.Places.{set_at, line_in};
-ghost use Rattle.station_rules.specs.InPlace.{joined_places, opened_places, sheet_line, repaired_places};
+ghost use Rattle.station_rules.specs.InPlace.{emptied_places, joined_places, opened_places, sheet_line, repaired_places};
 ghost use Rattle.station_rules.specs.Lines.{change_of};
 ghost use Rattle.station_rules.specs.Held.{phase_word, phase_said};
 ghost use Rattle.line.specs.Ranges.{LineFits, SetFits};
-ghost use Rattle.line.specs.Written.{emptied, closed_with};
 
 use station_rules::{
-    ADJUSTED_LINE, CHECK_DUE, FIRST_SET, HELD_PLACE, INTERCEPT_PLACE, Line, NEW_LINE, OPEN,
-    OPEN_LINE, PHASE_PLACE, PastSet, SHUT_LINE, Verdict,
+    ADJUSTED_LINE, CHECK_DUE, FIRST_NEWEST, FIRST_NONZERO, INTERCEPT_PLACE, LINE_PLACES, Line,
+    MOST_NEWEST, MOST_NONZERO, NEW_LINE, NEWEST_PLACE, NONZERO_PLACE, OPEN, OPEN_LINE, PHASE_PLACE,
+    PastSet, SHUT_LINE, Verdict,
 };
 use whole::held;
 
-// Where the sets after the newest stand, in a line's places; a chart's stand likewise in its own.
-const SECOND_SET: usize = FIRST_SET + held::SET_PLACES;
+// Where the sets after the first stand, in a line's places.
+const SECOND_NEWEST: usize = FIRST_NEWEST + held::SET_PLACES;
 
-const THIRD_SET: usize = SECOND_SET + held::SET_PLACES;
+const SECOND_NONZERO: usize = FIRST_NONZERO + held::SET_PLACES;
 
-const FOURTH_SET: usize = THIRD_SET + held::SET_PLACES;
+const THIRD_NONZERO: usize = SECOND_NONZERO + held::SET_PLACES;
+
+const FOURTH_NONZERO: usize = THIRD_NONZERO + held::SET_PLACES;
 
 // A sound station's line.
 #[derive(Clone, Copy)]
@@ -33,11 +35,18 @@ pub struct SoundLine {
 }
 
 impl SoundLine {
-    // Its past sets, newest first.
-    pub fn past(&self) -> &[PastSet]
-        ensures { result.now ≡ take self.now.line.held self.now.line.past }
+    // Its newest sets, newest first.
+    pub fn newest(&self) -> &[PastSet]
+        ensures { result.now ≡ take self.now.line.newest_held self.now.line.newest }
     {
-        &self.line.past[..self.line.held as usize]
+        &self.line.newest[..self.line.newest_held as usize]
+    }
+
+    // The newest of its sets that aren't zero, newest first.
+    pub fn nonzero(&self) -> &[PastSet]
+        ensures { result.now ≡ take self.now.line.nonzero_held self.now.line.nonzero }
+    {
+        &self.line.nonzero[..self.line.nonzero_held as usize]
     }
 }
 
@@ -66,55 +75,66 @@ pub fn set_at(part: &[i32], at: usize) -> PastSet
 // The phase stays a code and no enum: the places hold codes for the C interface, and a line is read of any places.
 #[tactic(auto, using(whole::proofs::PlaceLaws::natural_bits), unfolding(station_rules::specs::Places::line_in))]
 pub fn line_in(part: &[i32]) -> Line
-    requires { length part.now ≡ 15 }
+    requires { length part.now ≡ 22 }
     ensures { result ≡ line_in part.now }
 {
     Line {
         intercept: part[INTERCEPT_PLACE],
         phase: part[PHASE_PLACE].cast_unsigned(),
-        held: part[HELD_PLACE].cast_unsigned(),
-        past: [
-            set_at(part, FIRST_SET),
-            set_at(part, SECOND_SET),
-            set_at(part, THIRD_SET),
-            set_at(part, FOURTH_SET),
+        newest_held: part[NEWEST_PLACE].cast_unsigned(),
+        newest: [set_at(part, FIRST_NEWEST), set_at(part, SECOND_NEWEST)],
+        nonzero_held: part[NONZERO_PLACE].cast_unsigned(),
+        nonzero: [
+            set_at(part, FIRST_NONZERO),
+            set_at(part, SECOND_NONZERO),
+            set_at(part, THIRD_NONZERO),
+            set_at(part, FOURTH_NONZERO),
         ],
     }
 }
 
-// A part is a slice of 15 in each contract, as callers lend it, and no array: std's as_chunks_mut doesn't say what the slice ends as, and as_mut_array is an Option that each caller had to unwrap.
+// A part is a slice of 22 in each contract, as callers lend it, and no array: std's as_chunks_mut doesn't say what the slice ends as, and as_mut_array is an Option that each caller had to unwrap.
 
 // ---- written after a sheet
 
-// Nothing is held and the past is blank.
+// No set is held, and their places are blank.
 fn empty(part: &mut [i32])
-    requires { length part.old ≡ 15 }
-    ensures { part.new ≡ emptied part.old }
+    requires { length part.old ≡ 22 }
+    ensures { part.new ≡ emptied_places (place part.old 0) (place part.old 1) }
 {
-    part[HELD_PLACE] = 0;
-    held::empty(&mut part[FIRST_SET..]);
+    part[NEWEST_PLACE..].fill(0);
 }
 
-// After a sheet that met every average due: the line is open, and the set joins the past, of a line whose check was due as its only one.
+// The line is open, and a set joins the newest, and the non-zero ones where its S is not 0.
+fn join(part: &mut [i32], p: HeldSet)
+    requires { length part.old ≡ 22 }
+    ensures { part.new ≡ joined_places part.old p.set }
+{
+    let PastSet { day, sum, count } = p.set;
+    let set = [day as i32, sum, count as i32];
+    part[PHASE_PLACE] = OPEN_LINE as i32;
+    held::join(&mut part[NEWEST_PLACE..NONZERO_PLACE], MOST_NEWEST, set);
+    if line_past::is_nonzero(p.set) {
+        held::join(&mut part[NONZERO_PLACE..LINE_PLACES], MOST_NONZERO, set);
+    }
+}
+
+// After a sheet that met every average due: its set joins, and is the only one where the line's check was due.
 fn open(part: &mut [i32], p: HeldSet)
-    requires { length part.old ≡ 15 }
+    requires { length part.old ≡ 22 }
     ensures { part.new ≡ opened_places (phase_word (line_in part.old).phase) part.old p.set }
 {
     if ADJUSTED_LINE <= part[PHASE_PLACE].cast_unsigned() {
         empty(part);
     }
-    let held = held::one_more(part[HELD_PLACE].cast_unsigned());
-    part[PHASE_PLACE] = OPEN_LINE as i32;
-    part[HELD_PLACE] = held as i32;
-    let PastSet { day, sum, count } = p.set;
-    held::join(&mut part[FIRST_SET..], [day as i32, sum, count as i32]);
+    join(part, p);
 }
 
 // After a sheet that didn't: its phase, and the change of the intercept. The phase is a code, as the places hold it for C.
 fn close(part: &mut [i32], phase: u32, change: i32)
-    requires part_len { length part.old ≡ 15 }
+    requires part_len { length part.old ≡ 22 }
     requires within { (phase < 4) × ((Within 1000 1000 (place part.old 0)) × (Within 2000000 2000000 change)) }
-    ensures { part.new ≡ closed_with part.old (pos phase) change }
+    ensures { part.new ≡ emptied_places (place part.old 0 +ℤ change) (pos phase) }
 {
     part[INTERCEPT_PLACE] += change;
     part[PHASE_PLACE] = phase as i32;
@@ -123,7 +143,7 @@ fn close(part: &mut [i32], phase: u32, change: i32)
 
 // After a sheet: its set, and what that did to the line.
 pub fn enter_sheet(part: &mut [i32], p: HeldSet, v: Verdict)
-    requires part_len { length part.old ≡ 15 }
+    requires part_len { length part.old ≡ 22 }
     requires within { (Within 1000 1000 (place part.old 0)) × (Within 2000000 2000000 (change_of v)) }
     ensures { part.new ≡ sheet_line part.old p.set v }
 {
@@ -156,9 +176,9 @@ pub fn change_of(v: Verdict) -> i32
 
 // ---- written after a repair
 
-// New and open lines become new, any other phase stays; the past is emptied, and the intercept stays.
+// New and open lines become new, any other phase stays; the sets are emptied, and the intercept stays.
 pub fn repair(part: &mut [i32])
-    requires { length part.old ≡ 15 }
+    requires { length part.old ≡ 22 }
     ensures { part.new ≡ repaired_places part.old }
 {
     if part[PHASE_PLACE].cast_unsigned() < ADJUSTED_LINE {

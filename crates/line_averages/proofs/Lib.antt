@@ -1,2 +1,1 @@
 pub mod DueLaws
-pub mod RangeLaws

@@ -13,7 +13,7 @@ use Rattle.whole.proofs.Tests.{and_r}
 use Rattle.whole.proofs.ListLaws.{by_test}
 use Rattle.station_rules.specs.Lines.{valid_on}
 use Rattle.station_rules.specs.Soundness.{days_fall}
-use Rattle.station_rules.proofs.NewestFour.{none_valid}
+use Rattle.station_rules.proofs.HeldSets.{none_valid}
 use Rattle.station_rules.specs.declared.PastSet.{PastSet}
 
 -- at most 14 days old: no older than the day 14 days before
@@ -38,3 +38,7 @@ valid_first day d (p ∷ ps) t =
     (λ e e'. ap (λ (l : List PastSet). p ∷ l) (valid_first day p.day ps (and_r (leb p.day d) (days_fall p.day ps) t)))
     (λ e e'. let n = none_valid day p.day ps (leb-false day (p.day + 14) e) (and_r (leb p.day d) (days_fall p.day ps) t) in n ∙ sym (ap (λ (l : List PastSet). take (length l) (p ∷ ps)) n))
     refl
+
+-- so as many as there are valid ones are the valid ones
+pub valid_part : (day : ℕ) (ps : List PastSet) → T (days_fall 99999 ps) → take (length (valid_on day ps)) ps ≡ valid_on day ps
+valid_part day ps t = sym (valid_first day 99999 ps t)

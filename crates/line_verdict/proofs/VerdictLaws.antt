@@ -1,37 +1,55 @@
--- The verdict on a set by the test found, and an adjustment by its test.
-use mathlib.Core.Path.{◌≡◌, refl, sym, ap, ◌∙◌}
+-- The verdict on a set by the test found, the sets that its tests are made with, and an adjustment by its test.
+use mathlib.Core.Path.{◌≡◌, refl, sym, ap, ◌∙◌, subst⁻¹}
 use mathlib.Core.List.{List}
 use Rattle.std.specs.Prelude.{Option}
-use Prim.Native.Nat.{ℕ, ◌≤◌}
+use Prim.Native.Nat.{ℕ, ◌≤◌, ◌<◌}
+use native.Mathlib.Omega.{arith}
 use lib.IntN.{ℤ, neg_ℤ, nat_abs, ◌-ℤ◌}
-use lib.ListN.{length, take}
+use lib.ListN.{length, take, get_or, length-take}
+use lib.Seq.{get_or-take}
 use borrow.Author.Tests.{le-leb, ne_eqb}
 use Rattle.whole.proofs.ListLaws.{cond_yes, cond_no}
 use Rattle.station_rules.specs.Lines.{valid_on, tests_by, first_exceeded, judged, verdict_of, adjust_by}
-use Rattle.station_rules.specs.Held.{line_values, phase_word}
+use Rattle.station_rules.specs.Held.{no_set, line_values, phase_word}
 use Rattle.station_rules.specs.declared.Limits.{Limits}
 use Rattle.station_rules.specs.declared.Set.{Set}
 use Rattle.station_rules.specs.declared.Test.{Test}
 use Rattle.station_rules.specs.declared.Verdict.TheVariants.{Adjusted}
 use Rattle.station_rules.specs.declared.PastSet.{PastSet}
 use Rattle.station_rules.specs.declared.Line.{Line}
+use Rattle.line_past.specs.Ranges.{PastFits}
 use Rattle.line_past.proofs.ValidLaws.{valid_first}
-use Rattle.line.specs.Ranges.{LineFits}
+use Rattle.line.specs.Ranges.{SetsFit}
+use Rattle.line_averages.specs.Ranges.{Together, Due}
 
 -- ---- the verdict
 
-module _ (limits : Limits) (l : Line) (day : ℕ) (set : Set) where
-  -- the valid past sets are the newest k, so the test found among those is the rules'
-  pub judged_by : (k : ℕ) {f : Option Test} {past : List PastSet} → (set.count ≡ 0 → ⊥) → LineFits l
-      → k ≡ length (valid_on day past) → f ≡ first_exceeded (tests_by limits (phase_word l.phase) set (take k past))
-      → past ≡ take l.held l.past → judged l.intercept f ≡ verdict_of limits (line_values l) day set
-  unfolding verdict_of
-  judged_by k {past = past} h fits e g p =
-      let held = take l.held l.past in
-      let counted : k ≡ length (valid_on day held) = e ∙ ap (λ (ps : List PastSet). length (valid_on day ps)) p in
-      let v : take k past ≡ valid_on day held = ap (take k) p ∙ ap (λ (n : ℕ). take n held) counted ∙ sym (valid_first day 99999 held fits.falls) in
-      ap (judged l.intercept) (g ∙ ap (λ (ps : List PastSet). first_exceeded (tests_by limits (phase_word l.phase) set ps)) v)
-      ∙ cond_no _ _ refl (ne_eqb set.count 0 h)
+-- the test found among those by the valid sets of either kind is the rules'
+pub judged_by : (limits : Limits) (l : Line) (day : ℕ) (set : Set) {f : Option Test} {newest nonzero : List PastSet} → (set.count ≡ 0 → ⊥)
+    → f ≡ first_exceeded (tests_by limits (phase_word l.phase) set newest nonzero)
+    → newest ≡ valid_on day (take l.newest_held l.newest) → nonzero ≡ valid_on day (take l.nonzero_held l.nonzero)
+    → judged l.intercept f ≡ verdict_of limits (line_values l) day set
+unfolding verdict_of
+judged_by limits l day set h g e k =
+    ap (judged l.intercept) (g ∙ (λ i. first_exceeded (tests_by limits (phase_word l.phase) set (e i) (k i)))) ∙ cond_no _ _ refl (ne_eqb set.count 0 h)
+
+-- valid sets, with which its tests are made
+pub valid_due : (day most held : ℕ) (past : List PastSet) (set : Set) → most ≤ 4 → SetsFit most held past → Together 1 set
+    → {valid : List PastSet} → valid ≡ valid_on day (take held past) → Due set valid
+valid_due day most held past set few fits one {valid} e =
+    record { one = one; few = omega (arith, fits.room, most'); held = record { each = each } }
+  where
+    first : valid ≡ take (length valid) (take held past)
+    first = e ∙ valid_first day 99999 (take held past) fits.falls ∙ sym (ap (λ (l : List PastSet). take (length l) (take held past)) e)
+
+    most' : length valid ≤ held
+    most' = omega (arith, ap length first, length-take (length valid) (take held past), length-take held past)
+
+    each : (j : ℕ) → j < length valid → PastFits (get_or valid j no_set)
+    each j h =
+        let there : get_or valid j no_set ≡ get_or past j no_set =
+        ap (λ (l : List PastSet). get_or l j no_set) first ∙ get_or-take (length valid) (take held past) j no_set h ∙ get_or-take held past j no_set (omega (arith, most')) in
+        subst⁻¹ PastFits there (fits.each.each j (omega (arith, most')))
 
 -- ---- an adjustment
 

@@ -32,9 +32,9 @@ pub fn verdict_on(limits: Limits, l: SoundLine, day: u32, set: Set) -> Verdict
     if set.count == 0 {
         return Verdict::Shut;
     }
-    let past = l.past();
-    let valid = &past[..line_past::valid_count(day, past)];
-    match line_averages::first_exceeded(limits, l.line.phase, set, valid) {
+    let newest = line_past::valid(day, l.newest());
+    let nonzero = line_past::valid(day, l.nonzero());
+    match line_averages::first_exceeded(limits, l.line.phase, set, newest, nonzero) {
         Some(t) => adjust(l, whole::rounded(t.sum, t.count)),
         None => Verdict::Met,
     }

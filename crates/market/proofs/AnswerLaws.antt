@@ -71,7 +71,7 @@ left_by words day line scan asked basis a e =
 
 -- the same, of an answer that is known to be a certificate or a refusal, and of what was written
 module _ (words : List ℤ) (day line : ℕ) (scan : Scan) (asked : Asked) (basis : Basis) (a : (Result Certificate Refusal)) where
-  pub certified_first : (c : Certificate) → a ≡ Ok c → a ≡ answered_of (station_in words) day line scan asked basis → (length words ≡ 47) × (day ≤ 99999)
+  pub certified_first : (c : Certificate) → a ≡ Ok c → a ≡ answered_of (station_in words) day line scan asked basis → (length words ≡ 68) × (day ≤ 99999)
   unfolding answered_of market_numbers
   certified_first c is e =
       let s = station_in words in

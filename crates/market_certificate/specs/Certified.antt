@@ -16,7 +16,7 @@ answer_by (Some number) c = Err (refusal_of number)
 -- the certificate by A, the line's values, the intercept, B and h
 abbrev pub certificate_by : ℕ → Values → ℤ → ℤ → ℤ → Certificate
 certificate_by a v i b h =
-    record { day = newest_day v.past; intercept = i; basis = b; figure = tenths (nat_abs h); converted = tenths_at a (nat_abs b) (nat_abs h) }
+    record { day = newest_day v.newest; intercept = i; basis = b; figure = tenths (nat_abs h); converted = tenths_at a (nat_abs b) (nat_abs h) }
 
 -- numbers 12, 25 and 26, by a line's phase: none where it is open
 abbrev pub opened : LinePhase → Result Unit Refusal
@@ -31,7 +31,7 @@ last_checks a v day b h =
     record { answer = 12; applies = is_new v.phase }
     ∷ record { answer = 25; applies = is_adjusted v.phase }
     ∷ record { answer = 26; applies = is_shut v.phase }
-    ∷ record { answer = 13; applies = ltb (newest_day v.past + 7) day }
+    ∷ record { answer = 13; applies = ltb (newest_day v.newest + 7) day }
     ∷ record { answer = 14; applies = too_high a (nat_abs b) (nat_abs h) }
     ∷ []
 

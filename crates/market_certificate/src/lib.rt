@@ -29,7 +29,7 @@ pub fn certify(l: SoundLine, day: u32, i: i32, corrected: Corrected) -> Result<C
     ensures { result ≡ certified_of corrected.standard (line_values l.line) day i (pos corrected.basis) (pos corrected.value) }
 {
     check_open(l.line.phase)?;
-    let newest = market_figures::newest_day(l.past());
+    let newest = market_figures::newest_day(l.newest());
     if newest < day.saturating_sub(NEWEST_DAYS) {
         return Err(Refusal::OldSet);
     }

@@ -7,7 +7,7 @@ use Rattle.whole.specs.Rounding.{rounded_away, nearest_tenth}
 use Rattle.station_rules.specs.Rows.{row_of, samples, standard_basis, line_count, limits_of}
 use Rattle.station_rules.specs.Readings.{scan_fits, line_float, scan_serves, asked_float}
 use Rattle.station_rules.specs.Sheets.{samples_of, wrong_number, spread, closer, closest_pair, third_due, used_pair, first_deviation, again_round, final_deviation, kept_samples, set_of, sheet_checks}
-use Rattle.station_rules.specs.Lines.{valid_on, same_side, averages_due, tests_by, verdict_of}
+use Rattle.station_rules.specs.Lines.{valid_on, same_side, newest_tests, five_test, tests_by, verdict_of}
 use Rattle.station_rules.specs.Markets.{basis_from, asked_intercept, other_class, other_basis, corrected_value, too_high, tenths, tenths_at, market_checks, certificate_of}
 use Rattle.station_rules.specs.Judging.{sheet_numbers, market_numbers, sheet_set, sheet_verdict}
 use Rattle.station_rules.specs.Soundness.{sound_line, sound}
@@ -24,5 +24,5 @@ use Rattle.station_rules.specs.Cases.{Case}
 use Rattle.starred.specs.Cases.{starred}
 
 pub starred_hold : map (λ (c : Case). c.gives) starred ≡ map (λ (c : Case). c.says) starred
-unfolding starred of_bits units_of in_range reading_of answer_of row_of samples standard_basis line_count limits_of scan_fits line_float scan_serves asked_float samples_of wrong_number spread closer closest_pair third_due used_pair first_deviation again_round final_deviation kept_samples set_of sheet_checks valid_on same_side averages_due tests_by rounded_away verdict_of basis_from asked_intercept other_class other_basis corrected_value too_high tenths tenths_at nearest_tenth market_checks certificate_of sheet_numbers market_numbers sheet_set sheet_verdict sound_line sound sheet_station outcome_of sheet_of market_of bad_week bad_size outside bad_result mean_of plot_of chart_set_of sound_set chart_rows.limits_of absolute at_or_above at_or_below tolerance range_tolerance one_side run_by run sound_chart next_chart values_of refusal_of decided accepted result_of
+unfolding starred of_bits units_of in_range reading_of answer_of row_of samples standard_basis line_count limits_of scan_fits line_float scan_serves asked_float samples_of wrong_number spread closer closest_pair third_due used_pair first_deviation again_round final_deviation kept_samples set_of sheet_checks valid_on same_side newest_tests five_test tests_by rounded_away verdict_of basis_from asked_intercept other_class other_basis corrected_value too_high tenths tenths_at nearest_tenth market_checks certificate_of sheet_numbers market_numbers sheet_set sheet_verdict sound_line sound sheet_station outcome_of sheet_of market_of bad_week bad_size outside bad_result mean_of plot_of chart_set_of sound_set chart_rows.limits_of absolute at_or_above at_or_below tolerance range_tolerance one_side run_by run sound_chart next_chart values_of refusal_of decided accepted result_of
 starred_hold = refl

@@ -1,29 +1,16 @@
 -- docs/SPECIFICATION.md, "Cases": which state a line is in, by market tests after lists of calls, on the definitions that the calls' contracts cite and demand 3 folds.
-use Rattle.std.specs.Prelude.{List, [], ◌∷◌, ◌++◌, replicate, ℤ, pos, negsuc}
+use Rattle.std.specs.Prelude.{List, [], ◌∷◌, replicate, ℤ, pos, negsuc}
 use Rattle.station_rules.specs.Sheets.{numbers_of}
-use Rattle.station_rules.specs.declared.Sample.{Sample}
 use Rattle.station_rules.specs.Lines.{new_line, adjusted_line, check_due_phase}
 use Rattle.station_rules.specs.Held.{Station}
 use Rattle.station_rules.specs.Stations.{fresh_station}
 use Rattle.station_rules.specs.Replies.{refused_by, outcome, certificate}
 use Rattle.station_rules.specs.Calls.{Call, sheet_call, repair_call, station_after_all}
-use Rattle.station_rules.specs.Cases.{Seen, sheet, market, Case, station_at, sample, again, sheet_in, sheet_on, dry_from}
-
--- a sample of baseline 1000 whose results are alike
-abbrev pub twice : ℤ → Sample
-twice r = sample (pos 1000) r r (negsuc 0)
-
--- six samples that deviate, and again: none is kept
-abbrev pub far_apart : List Sample
-far_apart = replicate 3 (again (pos 1100) (twice (pos 1100))) ++ replicate 3 (again (pos 900) (twice (pos 900)))
+use Rattle.station_rules.specs.Cases.{Seen, sheet, market, Case, station_at, twice, far_apart, none_kept, sheet_in, sheet_on, dry_from}
 
 -- calls on day 2: a sheet of six samples whose results are alike
 abbrev pub alike : ℤ → Call
 alike r = sheet_call 2 0 (numbers_of (replicate 6 (twice r)))
-
--- a sheet of which no sample is kept
-abbrev pub none_kept : Call
-none_kept = sheet_call 2 0 (numbers_of far_apart)
 
 -- a repair
 abbrev pub repairs : Call

@@ -62,7 +62,7 @@ module _ (more : List (Check ℕ)) where
 -- of numbers 0 and 2
 pub record Serves (words : List ℤ) (day : ℕ) : Type 0 where
   pub right : sound (station_in words) ≡ true
-  pub full : length words ≡ 47
+  pub full : length words ≡ 68
   pub today : day ≤ 99999
 
 pub serves : (words : List ℤ) (day : ℕ) → first_number (day_checks (station_in words) day) ≡ None → Serves words day

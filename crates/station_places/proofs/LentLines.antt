@@ -10,8 +10,8 @@ use Rattle.station_rules.specs.Stations.{line_of}
 use Rattle.station_rules.specs.declared.Line.{Line}
 use Rattle.station_rules.proofs.InPlace.{line_there}
 
-pub fifteen : (at : ℕ) → (at + 15) - at ≡ 15
-fifteen at = omega arith
+pub line_long : (at : ℕ) → (at + 22) - at ≡ 22
+line_long at = omega arith
 
 module _ (words : List ℤ) (line : ℕ) (h : line < 3) where
   pub same_intercept : place (line_places words line) 0 ≡ (line_of (station_in words) line).intercept

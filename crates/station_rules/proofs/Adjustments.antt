@@ -1,7 +1,7 @@
 -- By the limits of every row an adjustment's change is never 0, so that a sheet's change tells whether it adjusted its line or shut it.
 use mathlib.Core.Path.{◌≡◌, refl, sym, ◌∙◌, ap, subst}
 use mathlib.Core.Bool.{Bool, true, false, cond, true≢false}
-use mathlib.Core.List.{List, [], ◌∷◌}
+use mathlib.Core.List.{List, [], ◌∷◌, ◌++◌}
 use Rattle.std.specs.Prelude.{Option, None, Some}
 use Prim.Native.Nat.{ℕ, zero, suc, ◌+◌, ◌*◌, ◌/◌, ◌≤◌, ◌<◌}
 use native.Mathlib.Omega.{arith}
@@ -12,7 +12,7 @@ use borrow.Author.Tests.{ltb-true, eqb-false, ne_eqb}
 use Rattle.std.proofs.lemmas.Int.{ints}
 use Rattle.whole.specs.Rounding.{rounded_away}
 use Rattle.station_rules.specs.Rows.{line_count, limits_of}
-use Rattle.station_rules.specs.Lines.{LinePhase, new_line, open_line, adjusted_line, shut_line, Values, exceeded, same_side, test_of, plus, five_test, averages_due, tests_by, tests_due, first_exceeded, rounded_average, sound_intercept, judged, verdict_of, change_of, phase_after, is_met, met_every, valid_on}
+use Rattle.station_rules.specs.Lines.{LinePhase, new_line, open_line, adjusted_line, shut_line, Values, exceeded, same_side, test_of, plus, newest_tests, five_test, tests_by, tests_due, first_exceeded, rounded_average, sound_intercept, judged, verdict_of, change_of, phase_after, is_met, met_every, valid_on}
 use Rattle.station_rules.specs.Books.{check_due_by}
 use Rattle.station_rules.specs.Laws.{AdjustmentChanges}
 use Rattle.station_rules.specs.declared.PastSet.{PastSet}
@@ -56,27 +56,30 @@ module _ (limits : Limits) (f : LimitsFacts limits) (set : Set) (some' : 1 ≤ s
   three_fair : (p q : PastSet) → Fair (test_of limits.three (plus (plus set p) q))
   three_fair p q = (f.three.least, omega arith)
 
-  five_fair : (p q r s : PastSet) → AllFair (five_test limits set p q r s)
-  five_fair p q r s = go (same_side set.sum p.sum q.sum r.sum s.sum)
+  newest_fair : (newest : List PastSet) (ts : List Test) → AllFair ts → AllFair (newest_tests limits set newest ++ ts)
+  unfolding newest_tests
+  newest_fair [] ts f = (one_fair, f)
+  newest_fair (p ∷ []) ts f = (one_fair, (two_fair p, f))
+  newest_fair (p ∷ q ∷ older) ts f = (one_fair, (two_fair p, (three_fair p q, f)))
+
+  five_fair : (nonzero : List PastSet) → AllFair (five_test limits set nonzero)
+  unfolding five_test
+  five_fair [] = tt
+  five_fair (p ∷ []) = tt
+  five_fair (p ∷ q ∷ []) = tt
+  five_fair (p ∷ q ∷ r ∷ []) = tt
+  five_fair (p ∷ q ∷ r ∷ s ∷ older) = go (same_side set.sum p.sum q.sum r.sum s.sum)
     where
       go : (b : Bool) → AllFair (cond b (test_of limits.five (plus (plus (plus (plus set p) q) r) s) ∷ []) [])
       go true = ((f.five.least, omega arith), tt)
       go false = tt
 
-  averages_fair : (valid : List PastSet) → AllFair (averages_due limits set valid)
-  unfolding averages_due
-  averages_fair [] = (one_fair, tt)
-  averages_fair (p ∷ []) = (one_fair, (two_fair p, tt))
-  averages_fair (p ∷ q ∷ []) = (one_fair, (two_fair p, (three_fair p q, tt)))
-  averages_fair (p ∷ q ∷ r ∷ []) = (one_fair, (two_fair p, (three_fair p q, tt)))
-  averages_fair (p ∷ q ∷ r ∷ s ∷ older) = (one_fair, (two_fair p, (three_fair p q, five_fair p q r s)))
-
-  due_fair : (phase : LinePhase) (valid : List PastSet) → AllFair (tests_by limits phase set valid)
+  due_fair : (phase : LinePhase) (newest nonzero : List PastSet) → AllFair (tests_by limits phase set newest nonzero)
   unfolding tests_by
-  due_fair new_line valid = averages_fair valid
-  due_fair open_line valid = averages_fair valid
-  due_fair adjusted_line valid = ((f.check.least, some'), tt)
-  due_fair shut_line valid = ((f.check.least, some'), tt)
+  due_fair new_line newest nonzero = newest_fair newest (five_test limits set nonzero) (five_fair nonzero)
+  due_fair open_line newest nonzero = newest_fair newest (five_test limits set nonzero) (five_fair nonzero)
+  due_fair adjusted_line newest nonzero = ((f.check.least, some'), tt)
+  due_fair shut_line newest nonzero = ((f.check.least, some'), tt)
 
 first_fair : (ts : List Test) (t : Test) → AllFair ts → first_exceeded ts ≡ Some t → Fair t × (exceeded t ≡ true)
 first_fair [] t f e = grind arith
@@ -111,7 +114,7 @@ module _ (row line : ℕ) (here : line < line_count row) (v : Values) (day : ℕ
       by_test : 1 ≤ set.count → (o : Option Test) → first_exceeded (tests_due limits v day set) ≡ o → judged v.intercept o ≡ Adjusted change → change ≡ pos 0 → ⊥
       by_test some' None g e z = grind arith
       by_test some' (Some t) g e z =
-          adjusted t (first_fair (tests_due limits v day set) t (due_fair limits ((row_facts row).line_limits line here) set some' v.phase (valid_on day v.past)) g)
+          adjusted t (first_fair (tests_due limits v day set) t (due_fair limits ((row_facts row).line_limits line here) set some' v.phase (valid_on day v.newest) (valid_on day v.nonzero)) g)
           (sound_intercept (v.intercept -ℤ rounded_average t)) e z
 
       go : (b : Bool) → eqb set.count 0 ≡ b → cond b Shut (judged v.intercept (first_exceeded (tests_due limits v day set))) ≡ Adjusted change → change ≡ pos 0 → ⊥

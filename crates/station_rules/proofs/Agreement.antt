@@ -21,7 +21,7 @@ use lib.Ieee.Bits.{is_true}
 use Rattle.station_rules.specs.Rows.{row_exists, samples, line_count, limits_of}
 use Rattle.station_rules.specs.Refusals.{first_number, number_of, refusal_of}
 use Rattle.station_rules.specs.Sheets.{sheet_checks}
-use Rattle.station_rules.specs.Lines.{LinePhase, open_phase, check_due_phase, Values, past_set, change_of, is_met}
+use Rattle.station_rules.specs.Lines.{open_phase, check_due_phase, Values, past_set, change_of, is_met}
 use Rattle.station_rules.specs.Markets.{certificate_of, market_checks}
 use Rattle.station_rules.specs.Judging.{day_check, line_check, sheet_numbers, market_numbers, repair_numbers, sheet_set, sheet_verdict}
 use Rattle.station_rules.specs.Held.{said_word, phase_said, repaired_phase, fresh_line, line_after, repaired_line}
@@ -30,7 +30,7 @@ use Rattle.station_rules.specs.Stations.{fresh_station, open_of, values_of, shee
 use Rattle.station_rules.specs.Replies.{Reply, refused_by, outcome, repaired, certificate, sheet_reply, repair_reply, market_reply}
 use Rattle.station_rules.specs.Calls.{Call, sheet_call, repair_call, market_call, station_after, station_reply, replies, station_after_all}
 use Rattle.station_rules.specs.Books.{Book, SheetEntry, sheet_entry, fresh_book, book_values, book_intercept, book_phase, book_past, book_number, entry_phase, entry_of, accepted, granted_reply, or_refused, or_same, book_reply, book_after, book_replies, book_after_all}
-use Rattle.station_rules.specs.Laws.{OpensFresh, StaysSound}
+use Rattle.station_rules.specs.Laws.{held_values, HeldServe, OpensFresh, StaysSound}
 use Rattle.station_rules.specs.declared.Outcome.{Outcome}
 use Rattle.station_rules.specs.declared.Certificate.{Certificate}
 use Rattle.station_rules.specs.declared.Scan.{Scan}
@@ -44,12 +44,12 @@ use Rattle.station_rules.specs.Held.{Station}
 use Rattle.station_rules.proofs.Checks.{has_refusal, known_number, none_head, none_tail, passed_over}
 use Rattle.whole.proofs.Elements.{all_take, all_at}
 use Rattle.station_rules.proofs.RowFacts.{row_facts}
-use Rattle.station_rules.proofs.NewestFour.{numbers_four, set_four, sheet_verdict_four, market_numbers_four, certificate_four}
+use Rattle.station_rules.proofs.HeldSets.{held_serve}
 use Rattle.station_rules.proofs.SheetBounds.{Bounded, set_bounded}
-use Rattle.station_rules.proofs.BookValues.{other_values, met_values, unmet_values, repair_values}
+use Rattle.station_rules.proofs.BookValues.{without_sets, other_values, met_values, unmet_values, repair_values}
 use Rattle.station_rules.proofs.Verdicts.{met_is_met, verdict_met, verdict_small}
 use Rattle.station_rules.proofs.Adjustments.{adjustment_changes}
-use Rattle.station_rules.proofs.Invariant.{LineAgrees, later_line, line_sound, fresh_line_lem, after_met, after_unmet, after_repair}
+use Rattle.station_rules.proofs.Invariant.{LineAgrees, same_values, later_line, line_sound, fresh_line_lem, after_met, after_unmet, after_repair}
 
 -- ---- a station's call, as a number or what it comes to when accepted
 
@@ -127,7 +127,7 @@ reply_is s c = (settled s c).1
 abbrev pub station_of : Book → List Line → Station
 station_of b ls = record { row = b.row; day = b.day; lines = ls }
 
--- each line has the book's values, with the newest four past sets, and is sound
+-- each line has the book's values, with the newest two sets and the newest four that aren't zero, and is sound
 pub record Agrees (ls : List Line) (b : Book) : Type 0 where
   pub exists : T (row_exists b.row)
   pub last : b.day ≤ 99999
@@ -148,6 +148,13 @@ sound_station b ls a =
 -- ---- a call is judged alike
 
 module _ (b : Book) (ls : List Line) (a : Agrees ls b) where
+  -- a station's line is judged by what it holds, the book's by all its sets
+  held_of : (line : ℕ) → values_of (station_of b ls) line ≡ held_values (book_values line b.entries)
+  held_of line = same_values (samples b.row) b.day (get_or ls line fresh_line) (book_values line b.entries) (a.lines line)
+
+  serve : (day line : ℕ) → HeldServe b.row (book_values line b.entries) day line
+  serve day line = held_serve b.row (book_values line b.entries) day line
+
   passed : (cs : List (Check ℕ)) → first_number (sound_check (station_of b ls) ∷ cs) ≡ first_number cs
   passed cs = passed_over (not (sound (station_of b ls))) 0 (first_number cs) (ap not (sound_station b ls a))
 
@@ -155,25 +162,25 @@ module _ (b : Book) (ls : List Line) (a : Agrees ls b) where
   unfolding checks_of book_number
   number_same (sheet_call day line numbers) =
       passed (sheet_numbers b.row b.day (values_of (station_of b ls) line) day line numbers)
-      ∙ ap (λ (w : Values). first_number (sheet_numbers b.row b.day w day line numbers)) (a.lines line).same
-      ∙ ap first_number (numbers_four b.row (book_values line b.entries) day line b.day numbers)
+      ∙ ap (λ (w : Values). first_number (sheet_numbers b.row b.day w day line numbers)) (held_of line)
+      ∙ ap first_number ((serve day line).numbers b.day numbers)
   number_same (repair_call day) = passed (repair_numbers b.day day)
   number_same (market_call day line scan asked basis) =
       passed (market_numbers b.row b.day (values_of (station_of b ls) line) day line scan asked basis)
-      ∙ ap (λ (w : Values). first_number (market_numbers b.row b.day w day line scan asked basis)) (a.lines line).same
-      ∙ ap first_number (market_numbers_four b.row (book_values line b.entries) day line scan asked basis b.day)
+      ∙ ap (λ (w : Values). first_number (market_numbers b.row b.day w day line scan asked basis)) (held_of line)
+      ∙ ap first_number ((serve day line).market b.day scan asked basis)
 
   set_path : (day line : ℕ) (numbers : List ℤ)
       → sheet_set b.row (values_of (station_of b ls) line) day line numbers ≡ sheet_set b.row (book_values line b.entries) day line numbers
   set_path day line numbers =
-      ap (λ (w : Values). sheet_set b.row w day line numbers) (a.lines line).same
-      ∙ set_four b.row (book_values line b.entries) day line numbers
+      ap (λ (w : Values). sheet_set b.row w day line numbers) (held_of line)
+      ∙ (serve day line).set numbers
 
   verdict_path : (day line : ℕ) (numbers : List ℤ)
       → sheet_verdict b.row (values_of (station_of b ls) line) day line numbers ≡ sheet_verdict b.row (book_values line b.entries) day line numbers
   verdict_path day line numbers =
-      ap (λ (w : Values). sheet_verdict b.row w day line numbers) (a.lines line).same
-      ∙ sheet_verdict_four b.row (book_values line b.entries) day line b.day numbers (a.lines line).good.falls
+      ap (λ (w : Values). sheet_verdict b.row w day line numbers) (held_of line)
+      ∙ (serve day line).verdict b.day (a.lines line).good.newest.falls (a.lines line).good.nonzero.falls numbers
 
   -- the phase that an outcome says, by whether the sheet met every average due
   phase_path : (day line : ℕ) (numbers : List ℤ)
@@ -197,8 +204,8 @@ module _ (b : Book) (ls : List Line) (a : Agrees ls b) where
   granted_same (repair_call day) = refl
   granted_same (market_call day line scan asked basis) =
       ap (λ (c : Certificate). certificate c.day c.intercept c.basis c.figure c.converted)
-      (ap (λ (w : Values). certificate_of b.row w line scan asked basis) (a.lines line).same
-      ∙ certificate_four b.row (book_values line b.entries) day line scan asked basis)
+      (ap (λ (w : Values). certificate_of b.row w line scan asked basis) (held_of line)
+      ∙ (serve day line).certificate scan asked basis)
 
 -- ---- what no number leaves
 
@@ -285,7 +292,7 @@ module _ (b : Book) (ls : List Line) (a : Agrees ls b) where
             let set = sheet_set b.row v day line numbers in
             subst⁻¹ (λ (w : Values). LineAgrees (samples b.row) day after w)
             (unmet_values line entry b.entries (eq-eqb line line refl) (sym met_path ∙ m)
-            ∙ ap (λ (p : LinePhase). record { intercept = entry.change +ℤ v.intercept; phase = p; past = [] }) (sym (adjustment_changes.told b.row line here v day set (sym met_path ∙ m))))
+            ∙ ap (without_sets (entry.change +ℤ v.intercept)) (sym (adjustment_changes.told b.row line here v day set (sym met_path ∙ m))))
             (after_unmet (samples b.row) b.day day (get_or ls line fresh_line) v (a.lines line) sheet_day.0 (past_set day set)
             (sheet_verdict b.row v day line numbers) m (verdict_small (limits_of b.row line) v day set (a.lines line).good.small))
 
@@ -334,7 +341,7 @@ module _ (b : Book) (ls : List Line) (a : Agrees ls b) where
           three = length-map ls repaired_line ∙ a.three;
           lines = λ i.
               subst⁻¹ (λ (w : Values). LineAgrees (samples b.row) day (get_or (map repaired_line ls) i fresh_line) w) (repair_values i day b.entries)
-              (subst⁻¹ (λ (l : Line). LineAgrees (samples b.row) day l (record { intercept = (book_values i b.entries).intercept; phase = repaired_phase (book_values i b.entries).phase; past = [] }))
+              (subst⁻¹ (λ (l : Line). LineAgrees (samples b.row) day l (without_sets (book_values i b.entries).intercept (repaired_phase (book_values i b.entries).phase)))
               (get_or-map repaired_line ls i fresh_line)
               (after_repair (samples b.row) b.day day (get_or ls i fresh_line) (book_values i b.entries) (a.lines i) d.0));
         };

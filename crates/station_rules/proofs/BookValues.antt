@@ -7,9 +7,18 @@ use Prim.Native.Nat.{ℕ}
 use native.Mathlib.Omega.{arith}
 use lib.Dec.{eqb}
 use lib.IntN.{ℤ, ◌+ℤ◌}
-use Rattle.station_rules.specs.Lines.{LinePhase, new_line, open_line}
+use Rattle.station_rules.specs.Lines.{LinePhase, new_line, open_line, Values, is_nonzero}
+use Rattle.station_rules.specs.declared.PastSet.{PastSet}
 use Rattle.station_rules.specs.Held.{repaired_phase}
 use Rattle.station_rules.specs.Books.{SheetEntry, Entry, sheet_entry, repair_entry, sheets_of, newest_touching, is_met_sheet, newest_unmet, newest_change, check_due_by, entry_set, book_intercept, book_phase, book_past, book_values}
+
+-- an open line's values with a set in front of the newest, and of the ones that aren't zero where it is one
+abbrev pub with_set : (intercept : ℤ) → Values → PastSet → Values
+with_set intercept v p = record { intercept = intercept; phase = open_line; newest = p ∷ v.newest; nonzero = cond (is_nonzero p) (p ∷ v.nonzero) v.nonzero }
+
+-- values without a set
+abbrev pub without_sets : (intercept : ℤ) → LinePhase → Values
+without_sets intercept phase = record { intercept = intercept; phase = phase; newest = []; nonzero = [] }
 
 module _ (line : ℕ) (e : SheetEntry) (es : List Entry) where
   -- another line's sheet changes nothing of the line
@@ -20,14 +29,14 @@ module _ (line : ℕ) (e : SheetEntry) (es : List Entry) where
   -- a sheet that met
   pub met_values : eqb e.line line ≡ true → e.met ≡ true
       → book_values line (sheet_entry e ∷ es)
-      ≡ record { intercept = e.change +ℤ (book_values line es).intercept; phase = open_line; past = entry_set e ∷ (book_values line es).past }
+      ≡ with_set (e.change +ℤ (book_values line es).intercept) (book_values line es) (entry_set e)
   unfolding book_values book_intercept book_phase book_past
   met_values h m = simp (h, m)
 
   -- a sheet that didn't meet
   pub unmet_values : eqb e.line line ≡ true → e.met ≡ false
       → book_values line (sheet_entry e ∷ es)
-      ≡ record { intercept = e.change +ℤ (book_values line es).intercept; phase = check_due_by e.change; past = [] }
+      ≡ without_sets (e.change +ℤ (book_values line es).intercept) (check_due_by e.change)
   unfolding book_values book_intercept book_phase book_past
   unmet_values h m = simp (h, m)
 
@@ -51,8 +60,8 @@ repaired_phase_lem met unmet change f = grind arith
 -- a repair
 pub repair_values : (line d : ℕ) (es : List Entry)
     → book_values line (repair_entry d ∷ es)
-    ≡ record { intercept = (book_values line es).intercept; phase = repaired_phase (book_values line es).phase; past = [] }
+    ≡ without_sets (book_values line es).intercept (repaired_phase (book_values line es).phase)
 unfolding book_values book_intercept book_phase book_past
 repair_values line d es =
-    ap (λ (p : LinePhase). record { intercept = book_intercept line es; phase = p; past = [] })
+    ap (without_sets (book_intercept line es))
     (repaired_phase_lem (is_met_sheet (newest_touching line es)) (newest_unmet (sheets_of line es)) (newest_change (sheets_of line es)) (met_not_unmet line es))

@@ -122,7 +122,7 @@ module _ (row : ℕ) (exists : T (row_exists row)) where
   falls : (before : List Call) (line : ℕ)
       → T (days_fall (book_after_all (fresh_book row) before).day (book_past line (book_after_all (fresh_book row) before).entries))
   unfolding book_values
-  falls before line = ((reached (fresh_book row) (replicate 3 fresh_line) (fresh_agrees row exists) before).1.lines line).good.falls
+  falls before line = ((reached (fresh_book row) (replicate 3 fresh_line) (fresh_agrees row exists) before).1.lines line).good.newest.falls
 
   changes_given_lem : (before : List Call) (line : ℕ)
       → book_intercept line (book_after_all (fresh_book row) before).entries ≡ changes_given line before (replies (fresh_station row) before)

@@ -73,7 +73,7 @@ module _ (s : Station) (day line : ℕ) (scan : Scan) (asked : Asked) (basis : B
   number_was =
       let a = basis_from s.row asked in
       same_before (take 9 former_all) (drop 9 (checks_of s (market_call day line scan asked basis))) (drop 9 former_all) tt
-      (phase_checks v.phase (ltb (newest_day v.past + 7) day) (too_high a (nat_abs (basis_of a basis)) (nat_abs (corrected_value v scan asked line))))
+      (phase_checks v.phase (ltb (newest_day v.newest + 7) day) (too_high a (nat_abs (basis_of a basis)) (nat_abs (corrected_value v scan asked line))))
 
 -- ---- a market test
 

@@ -65,7 +65,7 @@ unfolding certificate_of basis_from asked_intercept
 at_standard row v line scan class =
     let h = nat_abs (corrected_value v scan (Gluten class) line) in
     λ i. record {
-      day = newest_day v.past;
+      day = newest_day v.newest;
       intercept = derived_intercept v.intercept;
       basis = pos 1400;
       figure = tenths h;

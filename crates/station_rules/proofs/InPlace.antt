@@ -1,12 +1,12 @@
 -- The places after a call hold the station that the call hands back: the places are spelled out, and the rest is computed.
 use mathlib.Core.Path.{◌≡◌, refl, ◌∙◌, ap, subst}
 use mathlib.Core.Bool.{Bool, true, false, ◌&&◌, cond}
-use mathlib.Core.List.{List, [], ◌∷◌}
+use mathlib.Core.List.{List, [], ◌∷◌, ◌++◌}
 use Rattle.std.specs.Prelude.{Ok, Err, Option, None, Some}
-use Prim.Native.Nat.{ℕ, zero, suc, ◌<◌}
+use Prim.Native.Nat.{ℕ, zero, suc, min, ◌<◌}
 use native.Mathlib.Omega.{arith}
 use lib.Dec.{T, eqb, leb, ltb}
-use lib.IntN.{ℤ, pos}
+use lib.IntN.{ℤ, pos, ◌+ℤ◌}
 use lib.ListN.{length, take, set}
 use borrow.Author.Tests.{eqb-true, not-false}
 use Rattle.whole.specs.Lists.{all, Check}
@@ -15,17 +15,17 @@ use Rattle.std.specs.Bool.{passes}
 use Rattle.std.proofs.lemmas.Bool.{and_parts}
 use Rattle.station_rules.specs.Rows.{row_exists, samples, line_count, limits_of}
 use Rattle.station_rules.specs.Refusals.{first_number, refusal_of}
-use Rattle.station_rules.specs.Lines.{LinePhase, new_line, open_line, adjusted_line, shut_line, past_set}
-use Rattle.station_rules.specs.Held.{Station, phase_word, opened, line_after, repaired_line}
+use Rattle.station_rules.specs.Lines.{LinePhase, new_line, open_line, adjusted_line, shut_line, is_nonzero, past_set}
+use Rattle.station_rules.specs.Held.{Station, phase_word, phase_code, emptied, joined, opened, line_after, repaired_line}
 use Rattle.station_rules.specs.Soundness.{sound_line, sound, sound_check}
 use Rattle.station_rules.specs.Sheets.{sheet_checks}
 use Rattle.station_rules.specs.Judging.{day_check, line_check, repair_numbers, sheet_numbers, market_numbers, sheet_set, sheet_verdict}
 use Rattle.station_rules.specs.Markets.{certificate_of}
 use Rattle.station_rules.specs.Stations.{Opening, fresh_station, open_of, line_of, values_of, sheet_station, sheet_result, outcome_of, sheet_of, repair_station, repair_result, repair_of, market_station, market_result, market_of}
 use Rattle.station_rules.specs.Calls.{Call, sheet_call, repair_call, market_call, station_after, station_reply, replies, station_after_all}
-use Rattle.whole.specs.Places.{place, natural}
+use Rattle.whole.specs.Places.{place, natural, joined_sets}
 use Rattle.station_rules.specs.Places.{line_in, line_places, row_in, station_in}
-use Rattle.station_rules.specs.InPlace.{joined_places, opened_places, sheet_line, repaired_places, with_day, with_line, with_repaired, open_left, open_in, sheet_places, sheet_left, sheet_in, repair_places, repair_left, repair_in, market_places, market_left, market_in, places_after, reply_in, HoldsStation, AsHeld}
+use Rattle.station_rules.specs.InPlace.{set_places, newest_places, nonzero_places, emptied_places, joined_places, opened_places, sheet_line, repaired_places, with_day, with_line, with_repaired, open_left, open_in, sheet_places, sheet_left, sheet_in, repair_places, repair_left, repair_in, market_places, market_left, market_in, places_after, reply_in, HoldsStation, AsHeld}
 use Rattle.station_rules.specs.declared.PastSet.{PastSet}
 use Rattle.station_rules.specs.declared.Line.{Line}
 use Rattle.station_rules.specs.declared.Verdict.{Verdict}
@@ -38,13 +38,13 @@ use Rattle.station_rules.proofs.Checks.{none_head, none_tail}
 use Rattle.station_rules.proofs.RowFacts.{row_facts}
 use Rattle.station_rules.proofs.Agreement.{line_ok}
 
--- ---- a sound station has 47 places
+-- ---- a sound station has 68 places
 
 no_row : (b : Bool) (n : ℕ) → T (row_exists (cond b n 4294967295)) → b ≡ true
 no_row true n t = refl
 no_row false n t = absurd t
 
-pub all_places : (words : List ℤ) → sound (station_in words) ≡ true → length words ≡ 47
+pub all_places : (words : List ℤ) → sound (station_in words) ≡ true → length words ≡ 68
 unfolding sound station_in row_in
 all_places words e =
     let s = station_in words in
@@ -52,87 +52,102 @@ all_places words e =
     let day = leb s.day 99999 in
     let lines = all (sound_line (samples s.row) s.day) (take (line_count s.row) s.lines) in
     let there = (and_parts row day (and_parts (row && day) lines e).0).0 in
-    eqb-true (length words) 47 (no_row (eqb (length words) 47) (natural (place words 0)) (passes row there))
+    eqb-true (length words) 68 (no_row (eqb (length words) 68) (natural (place words 0)) (passes row there))
 
 -- ---- a line's places
 
-module _ (line : List ℤ) (full : length line ≡ 15) where
-  spelled_line : elements (pos 0) line 15 0 ≡ line
-  spelled_line = spelled (pos 0) line 15 full
+-- places of a line are spelled out
+module _ (line : List ℤ) (full : length line ≡ 22) where
+  spelled_line : elements (pos 0) line 22 0 ≡ line
+  spelled_line = spelled (pos 0) line 22 full
 
-  joined_line : (p : PastSet) → line_in (joined_places line p) ≡ opened open_line (line_in line) p
+  abbrev IsJoined : PastSet → List ℤ → Type 0
+  IsJoined p w = (line_in (joined_places w p) ≡ joined (line_in w) p) × (length (joined_places w p) ≡ 22)
+
+  joined_line : (p : PastSet) → IsJoined p line
   unfolding line_in elements
-  joined_line p = subst (λ (w : List ℤ). line_in (joined_places w p) ≡ opened open_line (line_in w) p) spelled_line refl
+  joined_line p = subst (IsJoined p) spelled_line (go (is_nonzero p))
+    where
+      -- whether it isn't zero
+      go : (b : Bool) → let w = elements (pos 0) line 22 0 in
+          let written = place w 0 ∷ pos (phase_code open_line) ∷ joined_sets 2 (newest_places w) (set_places p)
+          ++ cond b (joined_sets 4 (nonzero_places w) (set_places p)) (nonzero_places w) in
+          let l = line_in w in
+          (line_in written ≡ record {
+            intercept = l.intercept;
+            phase = phase_code open_line;
+            newest_held = min 2 (suc l.newest_held);
+            newest = p ∷ take 1 l.newest;
+            nonzero_held = cond b (min 4 (suc l.nonzero_held)) l.nonzero_held;
+            nonzero = cond b (p ∷ take 3 l.nonzero) l.nonzero;
+          }) × (length written ≡ 22)
+      go true = (refl, refl)
+      go false = (refl, refl)
 
-  opened_line : (phase : LinePhase) (p : PastSet) → line_in (opened_places phase line p) ≡ opened phase (line_in line) p
+emptied_line : (intercept phase : ℤ) → line_in (emptied_places intercept phase) ≡ emptied intercept (natural phase)
+unfolding line_in
+emptied_line intercept phase = refl
+
+module _ (line : List ℤ) (full : length line ≡ 22) where
+  opened_line : (phase : LinePhase) (p : PastSet) → (line_in (opened_places phase line p) ≡ opened phase (line_in line) p) × (length (opened_places phase line p) ≡ 22)
   unfolding line_in
-  opened_line new_line p = joined_line p
-  opened_line open_line p = joined_line p
-  opened_line adjusted_line p = refl
-  opened_line shut_line p = refl
+  opened_line new_line p = joined_line line full p
+  opened_line open_line p = joined_line line full p
+  opened_line adjusted_line p = joined_line (emptied_places (place line 0) (place line 1)) refl p
+  opened_line shut_line p = joined_line (emptied_places (place line 0) (place line 1)) refl p
 
   pub sheet_line_lem : (p : PastSet) (v : Verdict) → line_in (sheet_line line p v) ≡ line_after (line_in line) p v
   unfolding sheet_line line_in
-  sheet_line_lem p Met = opened_line (phase_word (line_in line).phase) p
+  sheet_line_lem p Met = (opened_line (phase_word (line_in line).phase) p).0
   sheet_line_lem p (Adjusted change) = refl
-  sheet_line_lem p Shut = refl
+  sheet_line_lem p Shut = emptied_line (place line 0 +ℤ pos 0) (pos (phase_code shut_line))
 
-  joined_full : (p : PastSet) → length (joined_places line p) ≡ 15
-  unfolding elements
-  joined_full p = subst (λ (w : List ℤ). length (joined_places w p) ≡ 15) spelled_line refl
-
-  opened_full : (phase : LinePhase) (p : PastSet) → length (opened_places phase line p) ≡ 15
-  opened_full new_line p = joined_full p
-  opened_full open_line p = joined_full p
-  opened_full adjusted_line p = refl
-  opened_full shut_line p = refl
-
-  pub sheet_full : (p : PastSet) (v : Verdict) → length (sheet_line line p v) ≡ 15
+  pub sheet_full : (p : PastSet) (v : Verdict) → length (sheet_line line p v) ≡ 22
   unfolding sheet_line
-  sheet_full p Met = opened_full (phase_word (line_in line).phase) p
+  sheet_full p Met = (opened_line (phase_word (line_in line).phase) p).1
   sheet_full p (Adjusted change) = refl
   sheet_full p Shut = refl
 
 pub repaired_line_lem : (line : List ℤ) → line_in (repaired_places line) ≡ repaired_line (line_in line)
 unfolding repaired_places line_in
-repaired_line_lem line = λ i. record { intercept = place line 0; phase = (go (ltb (natural (place line 1)) 2) ∙ repaired_code_lem (natural (place line 1))) i; held = 0; past = (repaired_line (line_in line)).past }
+repaired_line_lem line = ap (emptied (place line 0)) (go (ltb (natural (place line 1)) 2) ∙ repaired_code_lem (natural (place line 1)))
   where
     go : (early : Bool) → natural (cond early (pos 0) (place line 1)) ≡ cond early 0 (natural (place line 1))
     go true = refl
     go false = refl
 
-repaired_full : (line : List ℤ) → length (repaired_places line) ≡ 15
+repaired_full : (line : List ℤ) → length (repaired_places line) ≡ 22
 unfolding repaired_places
 repaired_full line = refl
 
 -- ---- a station's places
 
-module _ (words : List ℤ) (full : length words ≡ 47) where
-  spelled_station : elements (pos 0) words 47 0 ≡ words
-  spelled_station = spelled (pos 0) words 47 full
+module _ (words : List ℤ) (full : length words ≡ 68) where
+  spelled_station : elements (pos 0) words 68 0 ≡ words
+  spelled_station = spelled (pos 0) words 68 full
 
-  pub line_full : (line : ℕ) → line < 3 → length (line_places words line) ≡ 15
+  pub line_full : (line : ℕ) → line < 3 → length (line_places words line) ≡ 22
   unfolding elements
-  line_full zero h = subst (λ (w : List ℤ). length (line_places w 0) ≡ 15) spelled_station refl
-  line_full (suc zero) h = subst (λ (w : List ℤ). length (line_places w 1) ≡ 15) spelled_station refl
-  line_full (suc (suc zero)) h = subst (λ (w : List ℤ). length (line_places w 2) ≡ 15) spelled_station refl
+  line_full zero h = subst (λ (w : List ℤ). length (line_places w 0) ≡ 22) spelled_station refl
+  line_full (suc zero) h = subst (λ (w : List ℤ). length (line_places w 1) ≡ 22) spelled_station refl
+  line_full (suc (suc zero)) h = subst (λ (w : List ℤ). length (line_places w 2) ≡ 22) spelled_station refl
   line_full (suc (suc (suc n))) h = absurd (omega arith)
 
   pub day_written : (day : ℕ) → station_in (with_day words day) ≡ market_station (station_in words) day
   unfolding station_in row_in elements
   day_written day = subst (λ (w : List ℤ). station_in (with_day w day) ≡ market_station (station_in w) day) spelled_station refl
 
-  module _ (written : List ℤ) (whole_line : length written ≡ 15) where
+  module _ (written : List ℤ) (whole_line : length written ≡ 22) where
     -- with a line written: the station of places spelled out, and of a line spelled out
     abbrev IsWritten : ℕ → List ℤ → List ℤ → Type 0
     IsWritten line w l =
         (station_in (with_line w line l) ≡ record { row = (station_in w).row; day = (station_in w).day; lines = set (station_in w).lines line (line_in l) })
-        × (length (with_line w line l) ≡ 47)
+        × (length (with_line w line l) ≡ 68)
 
-    abbrev both_spelled : (line : ℕ) → IsWritten line (elements (pos 0) words 47 0) (elements (pos 0) written 15 0) → IsWritten line words written
+    abbrev both_spelled : (line : ℕ) → IsWritten line (elements (pos 0) words 68 0) (elements (pos 0) written 22 0) → IsWritten line words written
     both_spelled line r =
-        subst (λ (l : List ℤ). IsWritten line words l) (spelled (pos 0) written 15 whole_line)
-        (subst (λ (w : List ℤ). IsWritten line w (elements (pos 0) written 15 0)) spelled_station r)
+        subst (λ (l : List ℤ). IsWritten line words l) (spelled (pos 0) written 22 whole_line)
+        (subst (λ (w : List ℤ). IsWritten line w (elements (pos 0) written 22 0)) spelled_station r)
 
     pub line_written : (line : ℕ) → line < 3 → IsWritten line words written
     unfolding station_in row_in line_in elements
@@ -151,7 +166,7 @@ line_there words (suc (suc (suc n))) h = absurd (omega arith)
 
 -- ---- an accepted call's places
 
-module _ (words : List ℤ) (full : length words ≡ 47) where
+module _ (words : List ℤ) (full : length words ≡ 68) where
   pub sheet_written : (day line : ℕ) (numbers : List ℤ) → line < 3
       → station_in (sheet_places words day line numbers) ≡ sheet_station (station_in words) day line numbers
   unfolding sheet_places sheet_station
@@ -183,21 +198,21 @@ module _ (words : List ℤ) (full : length words ≡ 47) where
           lines = set (station_in words).lines line ((repaired_line_lem part ∙ ap repaired_line (line_there words line h)) i);
         })
 
-    pub repaired_47 : length (with_repaired words line) ≡ 47
-    repaired_47 = (line_written words full (repaired_places (line_places words line)) (repaired_full (line_places words line)) line h).1
+    pub repaired_68 : length (with_repaired words line) ≡ 68
+    repaired_68 = (line_written words full (repaired_places (line_places words line)) (repaired_full (line_places words line)) line h).1
 
-pub repair_written : (words : List ℤ) → length words ≡ 47 → (day : ℕ) → station_in (repair_places words day) ≡ repair_station (station_in words) day
+pub repair_written : (words : List ℤ) → length words ≡ 68 → (day : ℕ) → station_in (repair_places words day) ≡ repair_station (station_in words) day
 unfolding repair_places station_in
 repair_written words full day =
     let a = with_repaired words 0 in
     let b = with_repaired a 1 in
-    let a47 = repaired_47 words full 0 (omega arith) in
-    let b47 = repaired_47 a a47 1 (omega arith) in
-    let c47 = repaired_47 b b47 2 (omega arith) in
+    let a68 = repaired_68 words full 0 (omega arith) in
+    let b68 = repaired_68 a a68 1 (omega arith) in
+    let c68 = repaired_68 b b68 2 (omega arith) in
     let with : (line : ℕ) → Station → Station = λ line s. record { row = s.row; day = s.day; lines = set s.lines line (repaired_line (line_of s line)) } in
-    day_written (with_repaired b 2) c47 day
+    day_written (with_repaired b 2) c68 day
     ∙ ap (λ (s : Station). market_station s day)
-    (repaired_one b b47 2 (omega arith) ∙ ap (with 2) (repaired_one a a47 1 (omega arith) ∙ ap (with 1) (repaired_one words full 0 (omega arith))))
+    (repaired_one b b68 2 (omega arith) ∙ ap (with 2) (repaired_one a a68 1 (omega arith) ∙ ap (with 1) (repaired_one words full 0 (omega arith))))
 
 -- ---- the calls
 
@@ -213,13 +228,13 @@ open_holds row = go (row_exists row)
     go true = refl
     go false = refl
 
--- a call on a station in its places: a refused one leaves them, and where no number applies, the station is sound, so it has 47 places
+-- a call on a station in its places: a refused one leaves them, and where no number applies, the station is sound, so it has 68 places
 module _ (words : List ℤ) (numbers : List (Check ℕ)) (left : Option ℕ → List ℤ) (station : Option ℕ → Station) where
   abbrev checks : List (Check ℕ)
   checks = sound_check (station_in words) ∷ numbers
 
   settled : ((n : ℕ) → station_in (left (Some n)) ≡ station (Some n))
-      → (first_number checks ≡ None → length words ≡ 47 → station_in (left None) ≡ station None)
+      → (first_number checks ≡ None → length words ≡ 68 → station_in (left None) ≡ station None)
       → station_in (left (first_number checks)) ≡ station (first_number checks)
   settled refused accepted = go (first_number checks) refl
     where

@@ -3,7 +3,7 @@ pub mod Checks
 pub mod RowFacts
 pub mod SheetBounds
 pub mod Phases
-pub mod NewestFour
+pub mod HeldSets
 pub mod BookValues
 pub mod Verdicts
 pub mod Adjustments
@@ -19,3 +19,4 @@ pub mod Gluten
 pub mod Order
 pub mod Former
 pub mod Cases
+pub mod AcrossZeros

@@ -6,7 +6,7 @@ use Rattle.whole.specs.Lists.{total}
 use Rattle.station_rules.specs.Lists.{up_to}
 use Rattle.station_rules.specs.Rows.{limits_of}
 use Rattle.station_rules.specs.Refusals.{first_number}
-use Rattle.station_rules.specs.Lines.{LinePhase, new_line, open_line, adjusted_line, shut_line, Phase, open_phase, check_due_phase, Values, change_of, met_every}
+use Rattle.station_rules.specs.Lines.{LinePhase, new_line, open_line, adjusted_line, shut_line, Phase, open_phase, check_due_phase, Values, nonzero_of, change_of, met_every}
 use Rattle.station_rules.specs.Markets.{certificate_of}
 use Rattle.station_rules.specs.Judging.{sheet_numbers, market_numbers, repair_numbers, sheet_set, sheet_verdict}
 use Rattle.station_rules.specs.Replies.{Reply, refused_by, outcome, repaired, certificate}
@@ -94,10 +94,10 @@ module _ (line : ℕ) (entries : List Entry) where
   unfoldable pub book_past : List PastSet
   book_past = map entry_set (sheets_of line (up_to (ends_past line) entries))
 
-  -- by these values the rules judge a call on the line
+  -- by these values the rules judge a call on the line: a test takes the newest that count for it, of all past sets or of those that aren't zero
   unfoldable pub book_values : Values
   unfolding book_intercept book_phase book_past
-  book_values = record { intercept = book_intercept; phase = book_phase; past = book_past }
+  book_values = record { intercept = book_intercept; phase = book_phase; newest = book_past; nonzero = nonzero_of book_past }
 
 -- ---- a call
 

@@ -1,15 +1,18 @@
 -- What a call of the cases shows, how the station's cases are made, "Misreadings of the handbook", the place of 25 and 26, and the cases of "Wet gluten". The cases marked by a star
 -- and those of a line's phase are in the crate `starred`.
-use Rattle.std.specs.Prelude.{◌≡◌, List, [], ◌∷◌, ◌++◌, map, ℕ, ◌*◌, length, take, replicate, ℤ, pos, negsuc, ◌+ℤ◌}
+use Rattle.std.specs.Prelude.{◌≡◌, List, [], ◌∷◌, ◌++◌, map, ℕ, ◌*◌, min, length, take, replicate, ℤ, pos, negsuc, ◌+ℤ◌}
 use Rattle.std.specs.Float.Ieee.{of_bits}
 use Rattle.std.specs.Float.{binary32}
 use Rattle.reading.specs.Reading.{unit, Said, hundredths, answer_of, said_by}
 use Rattle.station_rules.specs.Sheets.{numbers_of}
 use Rattle.station_rules.specs.declared.Sample.{Sample}
-use Rattle.station_rules.specs.Lines.{LinePhase, new_line, open_line, adjusted_line, shut_line, open_phase}
-use Rattle.station_rules.specs.Held.{phase_code, no_sets, fresh_line}
+use Rattle.station_rules.specs.Lines.{LinePhase, new_line, open_line, adjusted_line, shut_line, nonzero_of, open_phase}
+use Rattle.station_rules.specs.Held.{phase_code, no_set, fresh_line}
+use Rattle.station_rules.specs.declared.PastSet.{PastSet}
+use Rattle.station_rules.specs.declared.Line.{Line}
 use Rattle.station_rules.specs.Stations.{fresh_station, line_of, sheet_of, market_of}
 use Rattle.station_rules.specs.Replies.{Reply, refused_by, outcome, certificate, sheet_reply, market_reply}
+use Rattle.station_rules.specs.Calls.{Call, sheet_call}
 use Rattle.station_rules.specs.Demand3.{gluten_off}
 use Rattle.station_rules.specs.declared.Scan.{Scan}
 use Rattle.station_rules.specs.declared.WheatClass.{WheatClass}
@@ -35,16 +38,22 @@ pub record Case : Type 0 where
 abbrev pub read_of : (bits : ℕ) → Seen
 read_of bits = read (said_by (answer_of (of_bits binary32 bits)))
 
+-- a line that holds the newest of past sets
+abbrev pub line_with : (intercept : ℤ) → LinePhase → List PastSet → Line
+line_with intercept phase past =
+    record {
+      intercept = intercept;
+      phase = phase_code phase;
+      newest_held = min 2 (length past);
+      newest = take 2 (past ++ replicate 2 no_set);
+      nonzero_held = min 4 (length (nonzero_of past));
+      nonzero = take 4 (nonzero_of past ++ replicate 4 no_set);
+    }
+
 -- a wheat station of day 1 whose line has this intercept and phase, and past sets of day 1 with N 12 and these S
 abbrev pub station_at : (intercept : ℤ) → LinePhase → List ℤ → Station
 station_at intercept phase sums =
-    record {
-      row = 0;
-      day = 1;
-      lines =
-          record { intercept = intercept; phase = phase_code phase; held = length sums; past = take 4 (map (λ s. record { day = 1; sum = s; count = 12 }) sums ++ no_sets) }
-          ∷ fresh_line ∷ fresh_line ∷ [];
-    }
+    record { row = 0; day = 1; lines = line_with intercept phase (map (λ s. record { day = 1; sum = s; count = 12 }) sums) ∷ fresh_line ∷ fresh_line ∷ [] }
 
 -- the same with intercept 0
 abbrev pub station_with : LinePhase → List ℤ → Station
@@ -60,6 +69,18 @@ off d = sample (pos 1000) (pos 1000 +ℤ d) (pos 1000) (negsuc 0)
 
 abbrev pub again : ℤ → Sample → Sample
 again r s = record { baseline = s.baseline; first = s.first; second = s.second; third = s.third; again_first = r; again_second = r }
+
+-- a sample of baseline 1000 whose results are alike
+abbrev pub twice : ℤ → Sample
+twice r = sample (pos 1000) r r (negsuc 0)
+
+-- six samples that deviate, and again: none is kept
+abbrev pub far_apart : List Sample
+far_apart = replicate 3 (again (pos 1100) (twice (pos 1100))) ++ replicate 3 (again (pos 900) (twice (pos 900)))
+
+-- a sheet on day 2 of which no sample is kept
+abbrev pub none_kept : Call
+none_kept = sheet_call 2 0 (numbers_of far_apart)
 
 -- a sheet on day 2 of a station's line 0
 abbrev pub sheet_in : Station → List Sample → Seen

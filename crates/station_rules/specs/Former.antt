@@ -37,7 +37,7 @@ module _ (row : ℕ) (v : Values) (line : ℕ) (scan : Scan) (asked : Asked) (ba
       ∷ record { answer = 10; applies = not (within 0 5000 b) }
       ∷ record { answer = 11; applies = not (within 0 10000 h) }
       ∷ record { answer = 12; applies = not (is_open v.phase) }
-      ∷ record { answer = 13; applies = ltb (newest_day v.past + 7) day }
+      ∷ record { answer = 13; applies = ltb (newest_day v.newest + 7) day }
       ∷ record { answer = 14; applies = too_high a (nat_abs b) (nat_abs h) }
       ∷ []
 

@@ -1,6 +1,6 @@
 -- docs/SPECIFICATION.md, "A line between sheets": a station, and the line that it holds, fresh, after a sheet and after a repair.
 use Rattle.std.specs.Prelude.{ℕ, suc, min, Bool, cond, List, [], ◌∷◌, length, get_or, take, replicate, ltb, ℤ, pos, ◌+ℤ◌}
-use Rattle.station_rules.specs.Lines.{LinePhase, new_line, open_line, adjusted_line, shut_line, Phase, new_phase, open_phase, check_due_phase, phase_of, Values, phase_after}
+use Rattle.station_rules.specs.Lines.{LinePhase, new_line, open_line, adjusted_line, shut_line, Phase, new_phase, open_phase, check_due_phase, phase_of, Values, is_nonzero, phase_after}
 use Rattle.station_rules.specs.declared.PastSet.{PastSet}
 use Rattle.station_rules.specs.declared.Line.{Line}
 use Rattle.station_rules.specs.declared.Verdict.{Verdict}
@@ -43,24 +43,35 @@ said_code check_due_phase = 2
 abbrev pub no_set : PastSet
 no_set = record { day = 0; sum = pos 0; count = 0 }
 
-abbrev pub no_sets : List PastSet
-no_sets = replicate 4 no_set
+-- a line that holds no set
+abbrev pub emptied : (intercept : ℤ) (phase : ℕ) → Line
+emptied intercept phase =
+    record { intercept = intercept; phase = phase; newest_held = 0; newest = replicate 2 no_set; nonzero_held = 0; nonzero = replicate 4 no_set }
 
 -- a fresh line: intercept 0, new, no past
 abbrev pub fresh_line : Line
-fresh_line = record { intercept = pos 0; phase = phase_code new_line; held = 0; past = no_sets }
+fresh_line = emptied (pos 0) (phase_code new_line)
 
 -- what the rules judge the line by
 abbrev pub line_values : Line → Values
-line_values l = record { intercept = l.intercept; phase = phase_word l.phase; past = take l.held l.past }
+line_values l =
+    record { intercept = l.intercept; phase = phase_word l.phase; newest = take l.newest_held l.newest; nonzero = take l.nonzero_held l.nonzero }
 
--- the line is open and the set joins the past, only the newest four being held
+-- the line is open and the set joins the newest, only two being held, and, where it isn't zero, the non-zero ones, only four being held
 abbrev pub joined : Line → PastSet → Line
-joined l p = record { intercept = l.intercept; phase = phase_code open_line; held = min 4 (suc l.held); past = p ∷ take 3 l.past }
+joined l p =
+    record {
+      intercept = l.intercept;
+      phase = phase_code open_line;
+      newest_held = min 2 (suc l.newest_held);
+      newest = p ∷ take 1 l.newest;
+      nonzero_held = cond (is_nonzero p) (min 4 (suc l.nonzero_held)) l.nonzero_held;
+      nonzero = cond (is_nonzero p) (p ∷ take 3 l.nonzero) l.nonzero;
+    }
 
 -- the line is open with this set as its only past
 abbrev pub only_past : Line → PastSet → Line
-only_past l p = record { intercept = l.intercept; phase = phase_code open_line; held = 1; past = p ∷ take 3 no_sets }
+only_past l p = joined (emptied l.intercept l.phase) p
 
 -- the line after a sheet that met every average due, by the phase before
 abbrev pub opened : LinePhase → Line → PastSet → Line
@@ -71,7 +82,7 @@ opened shut_line l p = only_past l p
 
 -- the line after a sheet that didn't: past sets go and the phase is check due
 abbrev pub closed : Line → LinePhase → ℤ → Line
-closed l phase change = record { intercept = l.intercept +ℤ change; phase = phase_code phase; held = 0; past = no_sets }
+closed l phase change = emptied (l.intercept +ℤ change) (phase_code phase)
 
 -- the line after a sheet; where it is shut the intercept stays
 abbrev pub line_after : Line → PastSet → Verdict → Line
@@ -96,4 +107,4 @@ repaired_code code = cond (phase_exists code) (phase_code (repaired_phase (phase
 
 -- a repair empties the past; the intercept stays
 abbrev pub repaired_line : Line → Line
-repaired_line l = record { intercept = l.intercept; phase = repaired_code l.phase; held = 0; past = no_sets }
+repaired_line l = emptied l.intercept (repaired_code l.phase)

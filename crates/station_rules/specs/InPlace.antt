@@ -1,13 +1,13 @@
 -- The four calls on a station in its caller's places: each answers as the call of `Stations` does on the station that the places hold, a refused one
 -- writes nothing, and an accepted one writes what is listed here. The places after it hold the station that the call of `Stations` hands back.
-use Rattle.std.specs.Prelude.{Result, Ok, Err, ℕ, suc, ◌+◌, min, ◌≡◌, cond, List, [], ◌∷◌, ◌++◌, ltb, ℤ, pos, ◌+ℤ◌, take, drop, set, replicate}
-use Rattle.station_rules.specs.Lines.{LinePhase, new_line, open_line, adjusted_line, shut_line, past_set}
+use Rattle.std.specs.Prelude.{Result, Ok, Err, ℕ, ◌+◌, ◌≡◌, cond, List, [], ◌∷◌, ◌++◌, ltb, ℤ, pos, ◌+ℤ◌, take, drop, set, replicate}
+use Rattle.station_rules.specs.Lines.{LinePhase, new_line, open_line, adjusted_line, shut_line, is_nonzero, past_set}
 use Rattle.station_rules.specs.Held.{phase_word, phase_code}
 use Rattle.station_rules.specs.Judging.{sheet_set, sheet_verdict}
 use Rattle.station_rules.specs.Stations.{open_of, values_of, sheet_of, repair_of, market_of}
 use Rattle.station_rules.specs.Replies.{Reply, sheet_reply, repair_reply, market_reply}
 use Rattle.station_rules.specs.Calls.{Call, sheet_call, repair_call, market_call, replies, station_after_all}
-use Rattle.whole.specs.Places.{place}
+use Rattle.whole.specs.Places.{place, joined_sets}
 use Rattle.station_rules.specs.Places.{line_in, line_start, line_places, station_in}
 use Rattle.station_rules.specs.declared.Scan.{Scan}
 use Rattle.station_rules.specs.declared.Asked.{Asked}
@@ -24,20 +24,32 @@ pub record Left (A : Type 0) : Type 0 where
   pub answer : A
   pub places : List ℤ
 
--- ---- a line's 15 places after a sheet and after a repair
+-- ---- a line's 22 places after a sheet and after a repair
 
 -- a past set's three places
 abbrev pub set_places : PastSet → List ℤ
 set_places p = pos p.day ∷ p.sum ∷ pos p.count ∷ []
 
--- open, one set more held, at most four; the set in front, and what stood in the places of three moves on by a set, whatever it is
+-- the places of a line's newest sets, and of its non-zero ones: how many, then the sets
+abbrev pub newest_places : List ℤ → List ℤ
+newest_places line = take 7 (drop 2 line)
+
+abbrev pub nonzero_places : List ℤ → List ℤ
+nonzero_places line = take 13 (drop 9 line)
+
+-- no set held, their places blank
+abbrev pub emptied_places : (intercept phase : ℤ) → List ℤ
+emptied_places intercept phase = intercept ∷ phase ∷ replicate 20 (pos 0)
+
+-- open, and the set in front of the newest, and of the non-zero ones where it is one
 abbrev pub joined_places : List ℤ → PastSet → List ℤ
 joined_places line p =
-    place line 0 ∷ pos (phase_code open_line) ∷ pos (min 4 (suc (line_in line).held)) ∷ set_places p ++ take 9 (drop 3 line)
+    place line 0 ∷ pos (phase_code open_line) ∷ joined_sets 2 (newest_places line) (set_places p)
+    ++ cond (is_nonzero p) (joined_sets 4 (nonzero_places line) (set_places p)) (nonzero_places line)
 
--- open, one set held; the set in front, the other places blank
+-- open with this set alone
 abbrev pub only_places : List ℤ → PastSet → List ℤ
-only_places line p = place line 0 ∷ pos (phase_code open_line) ∷ pos 1 ∷ set_places p ++ replicate 9 (pos 0)
+only_places line p = joined_places (emptied_places (place line 0) (place line 1)) p
 
 -- by the phase before
 abbrev pub opened_places : LinePhase → List ℤ → PastSet → List ℤ
@@ -46,9 +58,9 @@ opened_places open_line line p = joined_places line p
 opened_places adjusted_line line p = only_places line p
 opened_places shut_line line p = only_places line p
 
--- the intercept changed, the phase, nothing held, the places of the past blank
+-- the intercept changed, the phase, no set held
 abbrev pub closed_places : List ℤ → LinePhase → ℤ → List ℤ
-closed_places line phase change = (place line 0 +ℤ change) ∷ pos (phase_code phase) ∷ pos 0 ∷ replicate 12 (pos 0)
+closed_places line phase change = emptied_places (place line 0 +ℤ change) (pos (phase_code phase))
 
 -- after a sheet
 unfoldable pub sheet_line : List ℤ → PastSet → Verdict → List ℤ
@@ -56,12 +68,11 @@ sheet_line line p Met = opened_places (phase_word (line_in line).phase) line p
 sheet_line line p (Adjusted change) = closed_places line adjusted_line change
 sheet_line line p Shut = closed_places line shut_line (pos 0)
 
--- after a repair: a new or open line is new, any other phase stays; nothing held, the places of the past blank
+-- after a repair: a new or open line is new, any other phase stays; no set held
 unfoldable pub repaired_places : List ℤ → List ℤ
-repaired_places line =
-    place line 0 ∷ cond (ltb (line_in line).phase 2) (pos (phase_code new_line)) (place line 1) ∷ pos 0 ∷ replicate 12 (pos 0)
+repaired_places line = emptied_places (place line 0) (cond (ltb (line_in line).phase 2) (pos (phase_code new_line)) (place line 1))
 
--- ---- a station's 47 places after an accepted call
+-- ---- a station's 68 places after an accepted call
 
 -- with another day
 abbrev pub with_day : List ℤ → ℕ → List ℤ
@@ -69,11 +80,11 @@ with_day words day = set words 1 (pos day)
 
 -- with a line's places written
 abbrev pub with_line : List ℤ → ℕ → List ℤ → List ℤ
-with_line words line written = take (line_start line) words ++ (written ++ drop (line_start line + 15) words)
+with_line words line written = take (line_start line) words ++ (written ++ drop (line_start line + 22) words)
 
 -- an opening writes every place: the row, and 0
 abbrev pub opened_station : ℕ → List ℤ
-opened_station row = pos row ∷ replicate 46 (pos 0)
+opened_station row = pos row ∷ replicate 67 (pos 0)
 
 -- a sheet writes the day and its line
 unfoldable pub sheet_places : List ℤ → ℕ → ℕ → List ℤ → List ℤ

@@ -1,21 +1,23 @@
 -- Statements that follow from the rules, promised for every station.
-use Rattle.std.specs.Prelude.{Ok, ◌≡◌, ◌↔◌, true, false, ℕ, ◌*◌, ◌≤◌, ◌<◌, T, length, ℤ, pos, nat_abs, ◌-ℤ◌, ◌*ℤ◌, Float}
-use mathlib.Core.List.{List, Permᴰ, map}
+use Rattle.std.specs.Prelude.{Ok, ◌≡◌, ◌↔◌, true, false, ℕ, ◌*◌, ◌≤◌, ◌<◌, T, length, take, ℤ, pos, nat_abs, ◌-ℤ◌, ◌*ℤ◌, Float}
+use mathlib.Core.List.{List, [], ◌∷◌, Permᴰ, map}
 use Rattle.std.specs.Prelude.{Some}
 use Rattle.std.specs.List.{slice_get}
 use Rattle.station_rules.specs.Rows.{row_exists, line_count, limits_of}
 use Rattle.station_rules.specs.Sheets.{samples_of, numbers_of}
 use Rattle.station_rules.specs.declared.Sample.{Sample}
-use Rattle.station_rules.specs.Lines.{Values, verdict_of, met_every, is_met, change_of, phase_after}
+use Rattle.station_rules.specs.Lines.{Values, five_test, verdict_of, met_every, is_met, change_of, phase_after}
 use Rattle.station_rules.specs.Markets.{derived_intercept, corrected_value, newest_day, tenths, certificate_of}
-use Rattle.station_rules.specs.Soundness.{sound}
+use Rattle.station_rules.specs.Judging.{sheet_numbers, market_numbers, sheet_set, sheet_verdict}
+use Rattle.station_rules.specs.Soundness.{days_fall, sound}
 use Rattle.station_rules.specs.Stations.{fresh_station, values_of, open_of, sheet_of, market_of}
 use Rattle.station_rules.specs.Replies.{refused_by, certificate, market_reply}
 use Rattle.station_rules.specs.Calls.{Call, replies, station_after_all}
-use Rattle.station_rules.specs.Books.{fresh_book, check_due_by, book_replies}
+use Rattle.station_rules.specs.Books.{SheetEntry, Entry, sheet_entry, fresh_book, book_values, check_due_by, book_replies}
 use Rattle.station_rules.specs.Former.{former_replies, former_after_all, as_formerly}
 use Rattle.station_rules.specs.InPlace.{sheet_in}
 use Rattle.station_rules.specs.declared.Limits.{Limits}
+use Rattle.station_rules.specs.declared.PastSet.{PastSet}
 use Rattle.station_rules.specs.declared.Set.{Set}
 use Rattle.station_rules.specs.declared.Verdict.TheVariants.{Adjusted}
 use Rattle.station_rules.specs.declared.Scan.{Scan}
@@ -44,6 +46,27 @@ pub record AdjustmentChanges : Type 0 where
       → verdict_of (limits_of row line) v day set ≡ Adjusted change → change ≡ pos 0 → ⊥
   pub told : (row line : ℕ) → line < line_count row → (v : Values) (day : ℕ) (set : Set) → met_every (limits_of row line) v day set ≡ false
       → phase_after (verdict_of (limits_of row line) v day set) ≡ check_due_by (change_of (verdict_of (limits_of row line) v day set))
+
+-- what is held of a line's sets: the newest two, and the newest four that aren't zero
+abbrev pub held_values : Values → Values
+held_values v = record { intercept = v.intercept; phase = v.phase; newest = take 2 v.newest; nonzero = take 4 v.nonzero }
+
+-- a line is judged alike by these and by all its past sets, where their days never rise from newest to oldest
+pub record HeldServe (row : ℕ) (v : Values) (day line : ℕ) : Type 0 where
+  pub numbers : (last : ℕ) (numbers : List ℤ) → sheet_numbers row last (held_values v) day line numbers ≡ sheet_numbers row last v day line numbers
+  pub set : (numbers : List ℤ) → sheet_set row (held_values v) day line numbers ≡ sheet_set row v day line numbers
+  pub verdict : (d : ℕ) → T (days_fall d v.newest) → T (days_fall d v.nonzero) → (numbers : List ℤ)
+      → sheet_verdict row (held_values v) day line numbers ≡ sheet_verdict row v day line numbers
+  pub market : (last : ℕ) (scan : Scan) (asked : Asked) (basis : Basis)
+      → market_numbers row last (held_values v) day line scan asked basis ≡ market_numbers row last v day line scan asked basis
+  pub certificate : (scan : Scan) (asked : Asked) (basis : Basis)
+      → certificate_of row (held_values v) line scan asked basis ≡ certificate_of row v line scan asked basis
+
+-- zero sets are passed over: one at hand isn't tested for five, and one that met leaves the book's non-zero sets as they were
+pub record ZeroPassedOver : Type 0 where
+  pub present : (limits : Limits) (set : Set) (nonzero : List PastSet) → set.sum ≡ pos 0 → five_test limits set nonzero ≡ []
+  pub past : (line : ℕ) (e : SheetEntry) (es : List Entry) → e.line ≡ line → e.met ≡ true → e.sum ≡ pos 0
+      → (book_values line (sheet_entry e ∷ es)).nonzero ≡ (book_values line es).nonzero
 
 -- by the numbers 12, 25 and 26 every list of calls on any station is answered as by the former number 12, but for that number
 pub record CertifiedAsBefore : Type 0 where
@@ -83,7 +106,7 @@ pub record DerivedNearest (i : ℤ) : Type 0 where
 abbrev pub gluten_certificate : Values → (line : ℕ) → Scan → WheatClass → Certificate
 gluten_certificate v line scan class =
     let figure = tenths (nat_abs (corrected_value v scan (Asked.Gluten class) line)) in
-    record { day = newest_day v.past; intercept = derived_intercept v.intercept; basis = pos 1400; figure = figure; converted = figure }
+    record { day = newest_day v.newest; intercept = derived_intercept v.intercept; basis = pos 1400; figure = figure; converted = figure }
 
 -- and every one that is issued is this
 abbrev pub GlutenCertificate : Type 0

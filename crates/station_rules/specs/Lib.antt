@@ -19,3 +19,4 @@ pub mod InPlace
 pub mod Demand3
 pub mod Laws
 pub mod Cases
+pub mod AcrossZeros

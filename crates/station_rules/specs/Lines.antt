@@ -1,5 +1,5 @@
 -- docs/SPECIFICATION.md, "A line between sheets": the tests due of a set, the adjustment, and when a sheet met every average due.
-use Rattle.std.specs.Prelude.{ℕ, ◌+◌, ◌*◌, Bool, true, false, not, ◌&&◌, ◌||◌, cond, List, [], ◌∷◌, leb, ltb, eqb, ℤ, pos, neg_ℤ, nat_abs, ◌+ℤ◌, ◌-ℤ◌}
+use Rattle.std.specs.Prelude.{ℕ, ◌+◌, ◌*◌, Bool, true, false, not, ◌&&◌, ◌||◌, cond, List, [], ◌∷◌, ◌++◌, leb, ltb, eqb, ℤ, pos, neg_ℤ, nat_abs, ◌+ℤ◌, ◌-ℤ◌}
 use Rattle.std.specs.Prelude.{Option, None, Some}
 use Rattle.whole.specs.Lists.{any, above, below}
 use Rattle.whole.specs.Rounding.{rounded_away}
@@ -31,14 +31,23 @@ phase_of open_line = open_phase
 phase_of adjusted_line = check_due_phase
 phase_of shut_line = check_due_phase
 
--- what the rules judge a line by: its intercept, its phase, and its past sets, newest first
+-- what the rules judge a line by: its intercept, its phase, its newest sets, zero ones among them, and its newest sets that aren't zero, both newest first
 pub record Values : Type 0 where
   pub intercept : ℤ
   pub phase : LinePhase
-  pub past : List PastSet
+  pub newest : List PastSet
+  pub nonzero : List PastSet
 
 abbrev pub past_set : ℕ → Set → PastSet
 past_set day set = record { day = day; sum = set.sum; count = set.count }
+
+-- a set that isn't zero: its S is not 0
+abbrev pub is_nonzero : PastSet → Bool
+is_nonzero p = not (eqb (nat_abs p.sum) 0)
+
+-- the sets that aren't zero
+abbrev pub nonzero_of : List PastSet → List PastSet
+nonzero_of past = keep is_nonzero past
 
 -- past sets more than 14 days old are ignored
 unfoldable pub valid_on : ℕ → List PastSet → List PastSet
@@ -55,39 +64,39 @@ test_of limit set = record { limit = limit; sum = set.sum; count = set.count }
 abbrev pub plus : Set → PastSet → Set
 plus set p = record { sum = set.sum +ℤ p.sum; count = set.count + p.count }
 
--- all five S above zero or all below; zero breaks the five
+-- all five S above zero or all below
 unfoldable pub same_side : ℤ → ℤ → ℤ → ℤ → ℤ → Bool
 same_side a b c d e = above a && above b && above c && above d && above e || below a && below b && below c && below d && below e
 
--- with four valid and all on one side, the five
-abbrev pub five_test : Limits → Set → PastSet → PastSet → PastSet → PastSet → List Test
-five_test limits set p q r s =
-    cond (same_side set.sum p.sum q.sum r.sum s.sum)
-    (test_of limits.five (plus (plus (plus (plus set p) q) r) s) ∷ [])
-    []
+-- the one set; with one newest set valid the two together; with two the three
+unfoldable pub newest_tests : Limits → Set → List PastSet → List Test
+newest_tests limits set [] = test_of limits.one set ∷ []
+newest_tests limits set (p ∷ []) = test_of limits.one set ∷ test_of limits.two (plus set p) ∷ []
+newest_tests limits set (p ∷ q ∷ older) = test_of limits.one set ∷ test_of limits.two (plus set p) ∷ test_of limits.three (plus (plus set p) q) ∷ []
 
--- phase new or open: the one set; with one past set valid the two together; with two the three; with four the five
-unfoldable pub averages_due : Limits → Set → List PastSet → List Test
-averages_due limits set [] = test_of limits.one set ∷ []
-averages_due limits set (p ∷ []) = test_of limits.one set ∷ test_of limits.two (plus set p) ∷ []
-averages_due limits set (p ∷ q ∷ []) =
-    test_of limits.one set ∷ test_of limits.two (plus set p) ∷ test_of limits.three (plus (plus set p) q) ∷ []
-averages_due limits set (p ∷ q ∷ r ∷ []) =
-    test_of limits.one set ∷ test_of limits.two (plus set p) ∷ test_of limits.three (plus (plus set p) q) ∷ []
-averages_due limits set (p ∷ q ∷ r ∷ s ∷ older) =
-    test_of limits.one set ∷ test_of limits.two (plus set p) ∷ test_of limits.three (plus (plus set p) q)
-    ∷ five_test limits set p q r s
+-- with four non-zero sets valid and all five on one side, which a present set with S = 0 never is, the five
+unfoldable pub five_test : Limits → Set → List PastSet → List Test
+five_test limits set [] = []
+five_test limits set (p ∷ []) = []
+five_test limits set (p ∷ q ∷ []) = []
+five_test limits set (p ∷ q ∷ r ∷ []) = []
+five_test limits set (p ∷ q ∷ r ∷ s ∷ older) =
+    cond (same_side set.sum p.sum q.sum r.sum s.sum) (test_of limits.five (plus (plus (plus (plus set p) q) r) s) ∷ []) []
+
+-- phase new or open: by the newest sets, then by the non-zero ones
+abbrev pub averages_due : Limits → Set → (newest nonzero : List PastSet) → List Test
+averages_due limits set newest nonzero = newest_tests limits set newest ++ five_test limits set nonzero
 
 -- the tests due by the phase: the averages, or the check
-unfoldable pub tests_by : Limits → LinePhase → Set → List PastSet → List Test
-tests_by limits new_line set valid = averages_due limits set valid
-tests_by limits open_line set valid = averages_due limits set valid
-tests_by limits adjusted_line set valid = test_of limits.check set ∷ []
-tests_by limits shut_line set valid = test_of limits.check set ∷ []
+unfoldable pub tests_by : Limits → LinePhase → Set → (newest nonzero : List PastSet) → List Test
+tests_by limits new_line set newest nonzero = averages_due limits set newest nonzero
+tests_by limits open_line set newest nonzero = averages_due limits set newest nonzero
+tests_by limits adjusted_line set newest nonzero = test_of limits.check set ∷ []
+tests_by limits shut_line set newest nonzero = test_of limits.check set ∷ []
 
 -- the tests due of a set on a day
 abbrev pub tests_due : Limits → Values → ℕ → Set → List Test
-tests_due limits v day set = tests_by limits v.phase set (valid_on day v.past)
+tests_due limits v day set = tests_by limits v.phase set (valid_on day v.newest) (valid_on day v.nonzero)
 
 -- the first test exceeded
 abbrev pub first_exceeded : List Test → Option Test

@@ -114,7 +114,7 @@ module _ (row : ℕ) (v : Values) (line : ℕ) (scan : Scan) (asked : Asked) (ba
       ∷ record { answer = 12; applies = is_new v.phase }
       ∷ record { answer = 25; applies = is_adjusted v.phase }
       ∷ record { answer = 26; applies = is_shut v.phase }
-      ∷ record { answer = 13; applies = ltb (newest_day v.past + 7) day }
+      ∷ record { answer = 13; applies = ltb (newest_day v.newest + 7) day }
       ∷ record { answer = 14; applies = too_high a (nat_abs b) (nat_abs h) }
       ∷ []
 
@@ -125,7 +125,7 @@ module _ (row : ℕ) (v : Values) (line : ℕ) (scan : Scan) (asked : Asked) (ba
       let b = basis_of a basis in
       let h = corrected_value v scan asked line in
       record {
-        day = newest_day v.past;
+        day = newest_day v.newest;
         intercept = asked_intercept asked v.intercept;
         basis = b;
         figure = tenths (nat_abs h);

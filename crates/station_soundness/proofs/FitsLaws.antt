@@ -13,18 +13,18 @@ use Rattle.whole.specs.Bounds.{Within}
 use Rattle.whole.specs.Lists.{all}
 use Rattle.whole.proofs.Tests.{and_l, and_r, of_true, to_true}
 use Rattle.station_rules.specs.Rows.{samples, line_count, row_exists}
-use Rattle.station_rules.specs.Lines.{sound_intercept}
+use Rattle.station_rules.specs.Lines.{is_nonzero, sound_intercept}
 use Rattle.station_rules.specs.Held.{no_set, fresh_line}
-use Rattle.station_rules.specs.Soundness.{days_fall, sound_set, sound_held, sound_line, sound}
+use Rattle.station_rules.specs.Soundness.{days_fall, sound_set, sound_sets, sound_held, sound_line, sound}
 use Rattle.station_rules.specs.Stations.{line_of}
 use Rattle.whole.proofs.Elements.{at_all}
-use Rattle.station_rules.proofs.NewestFour.{falls_later}
+use Rattle.station_rules.proofs.HeldSets.{falls_later}
 use Rattle.station_rules.proofs.RowFacts.{row_facts}
 use Rattle.station_rules.specs.declared.PastSet.{PastSet}
 use Rattle.station_rules.specs.declared.Line.{Line}
 use Rattle.station_rules.specs.Held.{Station}
 use Rattle.line_past.specs.Ranges.{SetsOf}
-use Rattle.line.specs.Ranges.{LineFits}
+use Rattle.line.specs.Ranges.{SetsFit, LineFits}
 use Rattle.station_soundness.proofs.SoundLaws.{held_most}
 
 pub size_within : (m : ℕ) (z : ℤ) → nat_abs z ≤ m → Within m m z
@@ -59,28 +59,39 @@ fall_get day (p ∷ l) (suc i) t =
     let b = fall_get p.day l i (and_r (leb p.day day) (days_fall p.day l) t) in
     omega arith
 
+-- the held sets of either kind
+kind_fits : (n day most held : ℕ) (past : List PastSet) → n ≤ 6 → day ≤ 99999 → held ≤ most → T (sound_sets n day (take held past)) → SetsFit most held past
+kind_fits n day most held past h d room t =
+    let falls = and_l (days_fall day (take held past)) (all (sound_set n) (take held past)) t in
+    let sets = and_r (days_fall day (take held past)) (all (sound_set n) (take held past)) t in
+    record {
+      room = room;
+      each = record {
+        each = λ j k.
+            let e = get_or-take held past j no_set k in
+            record {
+              set = subst (λ (p : PastSet). SetsOf 1 p.sum p.count) e (sets_fit n (take held past) j h sets);
+              day = omega (arith, fall_get day (take held past) j falls, ap (λ (p : PastSet). p.day) e);
+            };
+      };
+      falls = falls_later day 99999 (take held past) d falls;
+    }
+
 line_sound : (n day : ℕ) (l : Line) → n ≤ 6 → day ≤ 99999 → T (sound_line n day l) → LineFits l
 unfolding sound_line
 line_sound n day l h d t =
-    let past = take l.held l.past in
     let small = sound_intercept l.intercept in
-    let room = sound_held l.phase l.held in
-    let t3 = and_l (small && room && days_fall day past) (all (sound_set n) past) t in
-    let t2 = and_l (small && room) (days_fall day past) t3 in
-    let sets = and_r (small && room && days_fall day past) (all (sound_set n) past) t in
-    let falls = and_r (small && room) (days_fall day past) t3 in
+    let held = sound_held l.phase l.newest_held l.nonzero_held in
+    let newest = sound_sets n day (take l.newest_held l.newest) in
+    let nonzero = sound_sets n day (take l.nonzero_held l.nonzero) in
+    let not_zero = all is_nonzero (take l.nonzero_held l.nonzero) in
+    let t3 = and_l (small && held && newest) (nonzero && not_zero) t in
+    let t2 = and_l (small && held) newest t3 in
+    let few = held_most l.phase l.newest_held l.nonzero_held (to_true held (and_r small held t2)) in
     record {
-      small = size_within 1000 l.intercept (leb→le (nat_abs l.intercept) 1000 (and_l small room t2));
-      room = held_most l.phase l.held (to_true room (and_r small room t2));
-      held = record {
-        each = λ j k.
-            let e = get_or-take l.held l.past j no_set k in
-            record {
-              set = subst (λ (p : PastSet). SetsOf 1 p.sum p.count) e (sets_fit n past j h sets);
-              day = omega (arith, fall_get day past j falls, ap (λ (p : PastSet). p.day) e);
-            };
-      };
-      falls = falls_later day 99999 past d falls;
+      small = size_within 1000 l.intercept (leb→le (nat_abs l.intercept) 1000 (and_l small held t2));
+      newest = kind_fits n day 2 l.newest_held l.newest h d few.two (and_r (small && held) newest t3);
+      nonzero = kind_fits n day 4 l.nonzero_held l.nonzero h d few.four (and_l nonzero not_zero (and_r (small && held && newest) (nonzero && not_zero) t));
     }
 
 fresh_sound : (n day : ℕ) → T (sound_line n day fresh_line)

@@ -1,27 +1,30 @@
 -- Soundness by its tests in the order in which they are made, and the past set by set.
-use mathlib.Core.Path.{◌≡◌, refl, sym, ◌∙◌, ap, subst}
+use mathlib.Core.Path.{◌≡◌, refl, sym, ◌∙◌, ap, ap₂, subst}
 use mathlib.Core.Bool.{Bool, true, false, ◌&&◌}
 use mathlib.Core.List.{List, [], ◌∷◌, map}
-use Prim.Native.Nat.{ℕ, zero, suc, ◌+◌, ◌-◌, ◌*◌, ◌/◌, ◌≤◌, ◌<◌}
+use Prim.Native.Nat.{ℕ, zero, suc, ◌+◌, ◌-◌, ◌/◌, ◌≤◌, ◌<◌}
 use native.Mathlib.Numerals.{add-one}
 use native.Mathlib.Omega.{arith}
-use lib.Dec.{leb, leb→le}
+use lib.Dec.{eqb, leb, leb→le}
 use lib.IntN.{ℤ, pos}
 use borrow.Rule.Slice.PartMut.{mid_of}
 use Rattle.std.specs.Simd.{first_chunks}
 use Rattle.whole.proofs.Spelled.{elements, spelled}
 use lib.ListN.{length, take, drop, get_or, drop_of_length-le}
-use lib.Seq.{drop-cons, get_or-take, length-take-le}
+use lib.Seq.{drop-cons}
 use borrow.Author.Tests.{le-ltb, le-leb, lt-leb, eqb-true}
+use Rattle.station_soundness.specs.Past.{sound_one, sound_kind}
+use Rattle.std.proofs.lemmas.List.{take-map}
 use Rattle.whole.specs.Lists.{all}
-use Rattle.whole.proofs.Tests.{and_r, of_true}
+use Rattle.whole.proofs.Tests.{and_true, and_l, and_r, of_true}
+use Rattle.std.proofs.lemmas.Bool.{and_parts}
 use Rattle.station_rules.specs.Rows.{row_exists, samples, line_count}
-use Rattle.station_rules.specs.Soundness.{days_fall, sound_set, sound_held, sound_line, sound}
+use Rattle.station_rules.specs.Soundness.{days_fall, sound_set, sound_sets, sound_nonzero, sound_held, sound_line, sound}
 use Rattle.station_rules.specs.declared.PastSet.{PastSet}
-use Rattle.station_rules.specs.Held.{no_set}
+use Rattle.station_rules.specs.declared.Line.{Line}
+use Rattle.station_rules.specs.Lines.{is_nonzero, sound_intercept}
 use Rattle.station_rules.specs.Places.{set_at, line_in, station_in}
 use Rattle.station_rules.specs.Held.{Station}
-use Rattle.station_soundness.specs.Past.{sound_past}
 
 -- ---- the past from newest to oldest
 
@@ -35,87 +38,116 @@ regroup true false b f s = refl
 regroup true true false f s = sym (and_false f)
 regroup true true true f s = refl
 
-module _ (n last i : ℕ) (past : List PastSet) where
+-- a set in its three places
+abbrev pub set_of : List ℤ → PastSet
+set_of s = set_at s 0
+
+module _ (zeros : Bool) (n last i : ℕ) (sets : List (List ℤ)) where
   -- past the last set nothing is left that could be wrong
-  pub past_done : length past ≤ i → true ≡ sound_past n last (drop i past)
-  past_done h = sym (ap (sound_past n last) (drop_of_length-le past h))
+  pub past_done : length sets ≤ i → true ≡ sound_kind zeros n last (map set_of (drop i sets))
+  past_done h = sym (ap (λ (l : List (List ℤ)). sound_kind zeros n last (map set_of l)) (drop_of_length-le sets h))
 
-  module _ (h : i < length past) (p : PastSet) (is : p ≡ get_or past i no_set) where
+  module _ (h : i < length sets) (p : PastSet) (is : p ≡ set_of (get_or sets i [])) where
     -- the next set and what is left after it decide
-    next_decides : sound_past n last (drop i past) ≡ (leb p.day last && sound_set n p) && sound_past n p.day (drop (i + 1) past)
+    next_decides : sound_kind zeros n last (map set_of (drop i sets)) ≡ (leb p.day last && sound_one zeros n p) && sound_kind zeros n p.day (map set_of (drop (i + 1) sets))
     next_decides =
-        ap (sound_past n last) (drop-cons past i no_set h ∙ (λ j. sym is j ∷ drop (sym (add-one i) j) past))
-        ∙ sym (regroup true (leb p.day last) (sound_set n p) (days_fall p.day (drop (i + 1) past)) (all (sound_set n) (drop (i + 1) past)))
+        ap (λ (l : List (List ℤ)). sound_kind zeros n last (map set_of l)) (drop-cons sets i [] h)
+        ∙ (λ j. sound_kind zeros n last (sym is j ∷ map set_of (drop (sym (add-one i) j) sets)))
+        ∙ sym (regroup true (leb p.day last) (sound_one zeros n p) (days_fall p.day (map set_of (drop (i + 1) sets))) (all (sound_one zeros n) (map set_of (drop (i + 1) sets))))
 
-    pub past_goes_on : leb p.day last && sound_set n p ≡ true → sound_past n p.day (drop (i + 1) past) ≡ sound_past n last (drop i past)
-    past_goes_on e = sym (next_decides ∙ ap (λ (b : Bool). b && sound_past n p.day (drop (i + 1) past)) e)
+    pub past_goes_on : leb p.day last && sound_one zeros n p ≡ true → sound_kind zeros n p.day (map set_of (drop (i + 1) sets)) ≡ sound_kind zeros n last (map set_of (drop i sets))
+    past_goes_on e = sym (next_decides ∙ ap (λ (b : Bool). b && sound_kind zeros n p.day (map set_of (drop (i + 1) sets))) e)
 
-    pub past_ends : leb p.day last && sound_set n p ≡ false → false ≡ sound_past n last (drop i past)
-    past_ends e = sym (next_decides ∙ ap (λ (b : Bool). b && sound_past n p.day (drop (i + 1) past)) e)
+    pub past_ends : leb p.day last && sound_one zeros n p ≡ false → false ≡ sound_kind zeros n last (map set_of (drop i sets))
+    past_ends e = sym (next_decides ∙ ap (λ (b : Bool). b && sound_kind zeros n p.day (map set_of (drop (i + 1) sets))) e)
 
--- a held set in its places
-pub set_there : (words : List ℤ) (held i : ℕ) → i < held → held ≤ 4 → set_at words (3 + 3 * i) ≡ get_or (take held (line_in words).past) i no_set
-unfolding line_in
-set_there words held i h few = there i h ∙ sym (get_or-take held (line_in words).past i no_set h)
+-- of a kind with zeros it is the rule's test of the sets, of one without that of non-zero ones
+pub kind_sets : (n day : ℕ) (past : List PastSet) → sound_kind true n day past ≡ sound_sets n day past
+kind_sets n day past = ap (λ (b : Bool). days_fall day past && b) (go past)
   where
-    there : (i : ℕ) → i < held → set_at words (3 + 3 * i) ≡ get_or (line_in words).past i no_set
-    there zero h = refl
-    there (suc zero) h = refl
-    there (suc (suc zero)) h = refl
-    there (suc (suc (suc zero))) h = refl
-    there (suc (suc (suc (suc i)))) h = absurd (omega arith)
+    go : (past : List PastSet) → all (sound_one true n) past ≡ all (sound_set n) past
+    go [] = refl
+    go (p ∷ ps) = ap₂ ◌&&◌ (and_true (sound_set n p)) (go ps)
 
--- the same, where the places are cut into sets
-pub set_cut : (words : List ℤ) (sets : List (List ℤ)) (held i : ℕ) → length words ≡ 15
-    → sets ≡ first_chunks 3 (length (mid_of 3 12 words) / 3) (mid_of 3 12 words) → i < held → held ≤ 4
-    → set_at (get_or (take held sets) i []) 0 ≡ get_or (take held (line_in words).past) i no_set
-unfolding elements
-set_cut words sets held i full cut h few =
-    ap (λ (set : List ℤ). set_at set 0) (get_or-take held sets i [] h ∙ ap (λ (s : List (List ℤ)). get_or s i []) cut)
-    ∙ subst (λ (w : List ℤ). set_at (get_or (first_chunks 3 (length (mid_of 3 12 w) / 3) (mid_of 3 12 w)) i []) 0 ≡ set_at w (3 + 3 * i)) (spelled (pos 0) words 15 full)
-    (there i (omega arith))
-    ∙ set_there words held i h few
+pub kind_nonzero : (n day : ℕ) (past : List PastSet) → sound_kind false n day past ≡ sound_nonzero n day past
+kind_nonzero n day past = ap (λ (b : Bool). days_fall day past && b) (go past) ∙ assoc (days_fall day past) (all (sound_set n) past) (all is_nonzero past)
   where
-    there : (i : ℕ) → i < 4
-        → let w = elements (pos 0) words 15 0 in set_at (get_or (first_chunks 3 (length (mid_of 3 12 w) / 3) (mid_of 3 12 w)) i []) 0 ≡ set_at w (3 + 3 * i)
-    there zero h = refl
-    there (suc zero) h = refl
-    there (suc (suc zero)) h = refl
-    there (suc (suc (suc zero))) h = refl
-    there (suc (suc (suc (suc i)))) h = absurd (omega arith)
+    assoc : (a b c : Bool) → a && (b && c) ≡ (a && b) && c
+    assoc true b c = refl
+    assoc false b c = refl
 
-pub held_count : (words : List ℤ) (held : ℕ) → held ≤ 4 → length (take held (line_in words).past) ≡ held
-unfolding line_in
-held_count words held few = length-take-le held (line_in words).past few
+    both : (a b c d : Bool) → (a && b) && (c && d) ≡ (a && c) && (b && d)
+    both a b c d = grind arith
+
+    go : (past : List PastSet) → all (sound_one false n) past ≡ all (sound_set n) past && all is_nonzero past
+    go [] = refl
+    go (p ∷ ps) = ap (λ (b : Bool). sound_one false n p && b) (go ps) ∙ both (sound_set n p) (is_nonzero p) (all (sound_set n) ps) (all is_nonzero ps)
+
+-- ---- the sets of each kind, where the places are cut into sets
+
+module _ (words : List ℤ) (full : length words ≡ 22) (sets : List (List ℤ)) (held : ℕ) where
+  pub newest_cut : sets ≡ first_chunks 3 (length (mid_of 3 6 words) / 3) (mid_of 3 6 words) → map set_of (take held sets) ≡ take held (line_in words).newest
+  unfolding line_in elements
+  newest_cut cut =
+      sym (take-map set_of held sets)
+      ∙ ap (λ (s : List (List ℤ)). take held (map set_of s)) cut
+      ∙ subst (λ (w : List ℤ). take held (map set_of (first_chunks 3 (length (mid_of 3 6 w) / 3) (mid_of 3 6 w))) ≡ take held (line_in w).newest) (spelled (pos 0) words 22 full) refl
+
+  pub nonzero_cut : sets ≡ first_chunks 3 (length (mid_of 10 12 words) / 3) (mid_of 10 12 words) → map set_of (take held sets) ≡ take held (line_in words).nonzero
+  unfolding line_in elements
+  nonzero_cut cut =
+      sym (take-map set_of held sets)
+      ∙ ap (λ (s : List (List ℤ)). take held (map set_of s)) cut
+      ∙ subst (λ (w : List ℤ). take held (map set_of (first_chunks 3 (length (mid_of 10 12 w) / 3) (mid_of 10 12 w))) ≡ take held (line_in w).nonzero) (spelled (pos 0) words 22 full) refl
 
 -- ---- the lines from the first
 
 -- where the places are cut into lines
-pub lines_cut : (words : List ℤ) (parts : List (List ℤ)) → length words ≡ 47
-    → let rest = take (length words - 2) (drop 2 words) in parts ≡ first_chunks 15 (length rest / 15) rest → map line_in parts ≡ (station_in words).lines
+pub lines_cut : (words : List ℤ) (parts : List (List ℤ)) → length words ≡ 68
+    → let rest = take (length words - 2) (drop 2 words) in parts ≡ first_chunks 22 (length rest / 22) rest → map line_in parts ≡ (station_in words).lines
 unfolding station_in elements
 lines_cut words parts full cut =
     ap (map line_in) cut
-    ∙ subst (λ (w : List ℤ). let rest = take (length w - 2) (drop 2 w) in map line_in (first_chunks 15 (length rest / 15) rest) ≡ (station_in w).lines)
-    (spelled (pos 0) words 47 full) refl
+    ∙ subst (λ (w : List ℤ). let rest = take (length w - 2) (drop 2 w) in map line_in (first_chunks 22 (length rest / 22) rest) ≡ (station_in w).lines)
+    (spelled (pos 0) words 68 full) refl
 
-pub all_map : {A B : Type 0} (p : B → Bool) (f : A → B) (count : ℕ) (l : List A) → all (λ x. p (f x)) (take count l) ≡ all p (take count (map f l))
-all_map p f zero l = refl
-all_map p f (suc count) [] = refl
-all_map p f (suc count) (x ∷ l) = ap (λ (b : Bool). p (f x) && b) (all_map p f count l)
+pub all_map : {A B : Type 0} (p : B → Bool) (f : A → B) (l : List A) → all (λ x. p (f x)) l ≡ all p (map f l)
+all_map p f [] = refl
+all_map p f (x ∷ l) = ap (λ (b : Bool). p (f x) && b) (all_map p f l)
 
 -- ---- a line
 
 -- a phase that there isn't
-phaseless : (phase held : ℕ) → 4 ≤ phase → false ≡ sound_held phase held
-phaseless phase held h = simp (le-ltb phase 4 h)
+phaseless : (phase newest nonzero : ℕ) → 4 ≤ phase → false ≡ sound_held phase newest nonzero
+phaseless phase newest nonzero h = simp (le-ltb phase 4 h)
 
-pub held_most : (phase held : ℕ) → sound_held phase held ≡ true → held ≤ 4
-held_most zero held e = omega (arith, eqb-true held 0 e)
-held_most (suc zero) held e = leb→le held 4 (and_r (leb 1 held) (leb held 4) (of_true (leb 1 held && leb held 4) e))
-held_most (suc (suc zero)) held e = omega (arith, eqb-true held 0 e)
-held_most (suc (suc (suc zero))) held e = omega (arith, eqb-true held 0 e)
-held_most (suc (suc (suc (suc n)))) held e = absurd (of_true false (phaseless (suc (suc (suc (suc n)))) held (omega arith) ∙ e))
+-- no more sets of each kind than are ever held
+pub record HeldFew (newest nonzero : ℕ) : Type 0 where
+  pub two : newest ≤ 2
+  pub four : nonzero ≤ 4
+
+none_held : (newest nonzero : ℕ) → eqb newest 0 && eqb nonzero 0 ≡ true → HeldFew newest nonzero
+none_held newest nonzero e =
+    let p = and_parts (eqb newest 0) (eqb nonzero 0) e in
+    record { two = omega (arith, eqb-true newest 0 p.0); four = omega (arith, eqb-true nonzero 0 p.1) }
+
+pub held_most : (phase newest nonzero : ℕ) → sound_held phase newest nonzero ≡ true → HeldFew newest nonzero
+held_most zero newest nonzero e = none_held newest nonzero e
+held_most (suc zero) newest nonzero e =
+    let t = of_true (leb 1 newest && leb newest 2 && leb nonzero 4) e in
+    record {
+      two = leb→le newest 2 (and_r (leb 1 newest) (leb newest 2) (and_l (leb 1 newest && leb newest 2) (leb nonzero 4) t));
+      four = leb→le nonzero 4 (and_r (leb 1 newest && leb newest 2) (leb nonzero 4) t);
+    }
+held_most (suc (suc zero)) newest nonzero e = none_held newest nonzero e
+held_most (suc (suc (suc zero))) newest nonzero e = none_held newest nonzero e
+held_most (suc (suc (suc (suc n)))) newest nonzero e = absurd (of_true false (phaseless (suc (suc (suc (suc n)))) newest nonzero (omega arith) ∙ e))
+
+-- by its intercept, its phase and how many sets, the sets of each kind decide
+pub by_kinds : (n day : ℕ) (l : Line) → sound_intercept l.intercept ≡ true → sound_held l.phase l.newest_held l.nonzero_held ≡ true
+    → sound_sets n day (take l.newest_held l.newest) && sound_nonzero n day (take l.nonzero_held l.nonzero) ≡ sound_line n day l
+unfolding sound_line
+by_kinds n day l i h = simp (i, h)
 
 -- ---- a station
 

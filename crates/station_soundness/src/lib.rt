@@ -3,18 +3,19 @@
 
 #![tactic(auto)]
 
-ghost use Rattle.std.specs.Prelude.{◌≡◌, ◌&&◌, ◌≤◌, leb, length, take};
+ghost use Rattle.std.specs.Prelude.{◌≡◌, ◌&&◌, ◌≤◌, leb, map, take};
 ghost use Rattle.whole.specs.Lists.{all};
 ghost use Rattle.station_rules.specs.Judging.{day_check};
-ghost use Rattle.station_rules.specs.Soundness.{sound_set, sound_held, sound_line, sound};
-ghost use Rattle.station_rules.specs.Places.{line_in, station_in};
-ghost use Rattle.station_soundness.specs.Past.{sound_past};
+ghost use Rattle.station_rules.specs.Soundness.{sound_set, sound_sets, sound_nonzero, sound_held, sound_line, sound};
+ghost use Rattle.station_rules.specs.Places.{set_at, line_in, station_in};
+ghost use Rattle.station_soundness.specs.Past.{sound_one, sound_kind};
 
 use station_rules::{
-    ADJUSTED_LINE, FIRST_LINE, FIRST_SET, HELD_PLACE, INTERCEPT_BOUND, INTERCEPT_PLACE, LAST_DAY,
-    LINE_PLACES, NEW_LINE, OPEN_LINE, PHASE_PLACE, PastSet, SHUT_LINE, STATION_PLACES, SUM_BOUND,
+    ADJUSTED_LINE, FIRST_LINE, FIRST_NEWEST, FIRST_NONZERO, INTERCEPT_BOUND, INTERCEPT_PLACE,
+    LAST_DAY, LINE_PLACES, MOST_NEWEST, MOST_NONZERO, NEW_LINE, NEWEST_PLACE, NONZERO_PLACE,
+    OPEN_LINE, PHASE_PLACE, PastSet, SHUT_LINE, STATION_PLACES, SUM_BOUND,
 };
-use whole::held::{SET_PLACES, SETS};
+use whole::held::SET_PLACES;
 
 // N is even from 2 to twice the samples n, and |S| is at most 11000 times N.
 fn sound_set(n: u32, p: PastSet) -> bool
@@ -26,34 +27,32 @@ fn sound_set(n: u32, p: PastSet) -> bool
         && u64::from(p.sum.unsigned_abs()) <= u64::from(SUM_BOUND) * count
 }
 
-// An open line has one to four past sets and any other none; a phase that there isn't has no right number of them. The phase is a code, as the places hold it for C.
-fn sound_held(phase: u32, held: u32) -> bool
-    ensures { result ≡ sound_held phase held }
+// An open line has one or two newest sets and at most four non-zero ones, any other none of either; a phase that there isn't has no right number of them. The phase is a code, as the places hold it for C.
+fn sound_held(phase: u32, newest: u32, nonzero: u32) -> bool
+    ensures { result ≡ sound_held phase newest nonzero }
 {
     match phase {
-        OPEN_LINE => (1..=SETS).contains(&held),
-        NEW_LINE | ADJUSTED_LINE | SHUT_LINE => held == 0,
+        OPEN_LINE => (1..=MOST_NEWEST).contains(&newest) && nonzero <= MOST_NONZERO,
+        NEW_LINE | ADJUSTED_LINE | SHUT_LINE => newest == 0 && nonzero == 0,
         _ => false,
     }
 }
 
-// A set whose day does not pass that of the set before it, and that is sound.
-fn next_set(n: u32, last: u32, p: PastSet) -> bool
-    ensures { result ≡ (leb p.day last && sound_set n p) }
+// A set whose day does not pass that of the set before it, and that is sound; where its kind has no zeros, its S is not 0.
+fn next_set(zeros: bool, n: u32, last: u32, p: PastSet) -> bool
+    ensures { result ≡ (leb p.day last && sound_one zeros n p) }
 {
-    p.day <= last && sound_set(n, p)
+    p.day <= last && sound_set(n, p) && (zeros || line_past::is_nonzero(p))
 }
 
-// The held sets of the line in these places, from newest to oldest: a loop, since each day is held against that of the set before it, and the first against the station's.
-fn sound_past(n: u32, day: u32, held: usize, part: &[i32; LINE_PLACES]) -> bool
-    requires { held ≤ 4 }
-    ensures { result ≡ sound_past n day (take held (line_in part.now).past) }
+// The held sets of one kind, from newest to oldest: a loop, since each day is held against that of the set before it, and the first against the station's.
+fn sound_kind(zeros: bool, n: u32, day: u32, sets: &[[i32; SET_PLACES]]) -> bool
+    ensures { result ≡ sound_kind zeros n day (map (λ s. set_at s 0) sets.now) }
 {
-    let (sets, _) = part[FIRST_SET..].as_chunks::<SET_PLACES>();
     let mut last = day;
-    for set in &sets[..held] {
+    for set in sets {
         let p = line::set_at(set, 0);
-        if !next_set(n, last, p) {
+        if !next_set(zeros, n, last, p) {
             return false;
         }
         last = p.day;
@@ -61,17 +60,30 @@ fn sound_past(n: u32, day: u32, held: usize, part: &[i32; LINE_PLACES]) -> bool
     true
 }
 
+// The held sets of a line, those of each kind by themselves.
+fn sound_kinds(n: u32, day: u32, newest: usize, nonzero: usize, part: &[i32; LINE_PLACES]) -> bool
+    requires { (newest ≤ 2) × (nonzero ≤ 4) }
+    ensures { result ≡ (sound_sets n day (take newest (line_in part.now).newest) && sound_nonzero n day (take nonzero (line_in part.now).nonzero)) }
+{
+    let (newest_sets, _) = part[FIRST_NEWEST..NONZERO_PLACE].as_chunks::<SET_PLACES>();
+    let (nonzero_sets, _) = part[FIRST_NONZERO..].as_chunks::<SET_PLACES>();
+    sound_kind(true, n, day, &newest_sets[..newest])
+        && sound_kind(false, n, day, &nonzero_sets[..nonzero])
+}
+
+// A line whose intercept, phase and counts are sound, and the sets held by these counts.
 #[tactic(auto, using(whole::proofs::PlaceLaws::natural_read), unfolding(station_rules::specs::Soundness::sound_line, station_rules::specs::Places::line_in))]
 fn sound_line(n: u32, day: u32, part: &[i32; LINE_PLACES]) -> bool
     ensures { result ≡ sound_line n day (line_in part.now) }
 {
-    let held = part[HELD_PLACE].cast_unsigned();
+    let newest = part[NEWEST_PLACE].cast_unsigned();
+    let nonzero = part[NONZERO_PLACE].cast_unsigned();
     part[INTERCEPT_PLACE].unsigned_abs() <= INTERCEPT_BOUND
-        && sound_held(part[PHASE_PLACE].cast_unsigned(), held)
-        && sound_past(n, day, held as usize, part)
+        && sound_held(part[PHASE_PLACE].cast_unsigned(), newest, nonzero)
+        && sound_kinds(n, day, newest as usize, nonzero as usize, part)
 }
 
-// Number 0: the places are 47, the row exists, the day is 0..99999, and the row's lines are sound.
+// Number 0: the places are 68, the row exists, the day is 0..99999, and the row's lines are sound.
 pub fn is_sound(state: &[i32]) -> bool
     ensures { result ≡ sound (station_in state.now) }
 {

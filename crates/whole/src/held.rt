@@ -1,35 +1,21 @@
-// Four sets of three numbers each in a part of 12 places, newest first: a line's past sets, a chart's held sets.
-ghost use Rattle.std.specs.Prelude.{◌≡◌, ◌++◌, suc, min, pos, length, take, replicate};
+// Sets of three numbers each in a part of a caller's places, with how many are held in front: a line's newest sets, its non-zero ones, a chart's sets.
 
-// The sets that are held at most.
-pub const SETS: u32 = 4;
+#![tactic(auto)]
+
+ghost use Rattle.std.specs.Prelude.{◌≡◌, ◌+◌, ◌*◌, ◌≤◌, length};
+ghost use Rattle.whole.specs.Places.{joined_sets};
 
 // The places of a set.
 pub const SET_PLACES: usize = 3;
 
-// The places of all sets but the oldest.
-const NEWEST_PLACES: usize = 9;
-
-// A set joins in front: the three after it move on by one, and the last goes.
-pub fn join(part: &mut [i32], set: [i32; SET_PLACES])
-    requires { length part.old ≡ 12 }
-    ensures { part.new ≡ set ++ take 9 part.old }
+// A set joins in front: one more is held, and `most` at most; the sets after it move on by one, and the last goes.
+pub fn join(part: &mut [i32], most: u32, set: [i32; SET_PLACES])
+    requires { (length part.old ≡ 1 + 3 * most) × ((1 ≤ most) × (most ≤ 4)) }
+    ensures { part.new ≡ joined_sets most part.old set }
 {
-    part.copy_within(0..NEWEST_PLACES, SET_PLACES);
-    part[..SET_PLACES].copy_from_slice(&set);
-}
-
-// All four are emptied.
-pub fn empty(part: &mut [i32])
-    requires { length part.old ≡ 12 }
-    ensures { part.new ≡ replicate 12 (pos 0) }
-{
-    part.fill(0);
-}
-
-// One more is held, and four at most.
-pub fn one_more(held: u32) -> u32
-    ensures { result ≡ min 4 (suc held) }
-{
-    held.min(SETS - 1) + 1
+    let held = part[0].cast_unsigned().min(most - 1) + 1;
+    let kept = part.len() - SET_PLACES;
+    part.copy_within(1..kept, 1 + SET_PLACES);
+    part[1..=SET_PLACES].copy_from_slice(&set);
+    part[0] = held.cast_signed();
 }

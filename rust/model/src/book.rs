@@ -1,7 +1,7 @@
 //! Section "The book": the same answers from the list of accepted calls alone.
 
 use crate::Refusal;
-use crate::line::{self, Verdict};
+use crate::line::{self, Past, Verdict};
 use crate::market::{self, Asked, Basis, Certificate, Request, Scan};
 use crate::rules::Rules;
 use crate::sheet::{self, Outcome};
@@ -85,6 +85,13 @@ impl Book {
         self.touching(line).map_while(met).collect()
     }
 
+    /// Its past sets that aren't zero, newest first.
+    pub fn nonzero(&self, line: usize) -> Vec<PastSet> {
+        let mut sets = self.past(line);
+        sets.retain(|set| !set.is_zero());
+        sets
+    }
+
     pub fn sheet(
         &mut self,
         rules: &Rules,
@@ -99,9 +106,12 @@ impl Book {
         let sums = sheet::sums(rules, product.samples, limits, intercept, numbers)?;
         let (s, n) = (sums.s, sums.n);
         let set = PastSet { day, s, n };
-        let past = self.past(line);
-        let verdict: Verdict =
-            line::verdict(rules, limits, intercept, self.phase(line), &past, set);
+        let (newest, nonzero) = (self.past(line), self.nonzero(line));
+        let past = Past {
+            newest: &newest,
+            nonzero: &nonzero,
+        };
+        let verdict: Verdict = line::verdict(rules, limits, intercept, self.phase(line), past, set);
         let change = verdict.change();
         self.entries.push(Entry::Sheet {
             line,

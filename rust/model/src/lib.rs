@@ -19,13 +19,13 @@ pub mod text;
 pub use book::Book;
 pub use calendar::{Calendar, Date};
 pub use chart::{Chart, ChartSet, ChartValues};
-pub use line::{Test, Verdict};
+pub use line::{Past, Test, Verdict};
 pub use lot::{LotStatement, Sublot, ship_lot};
 pub use market::{Asked, Basis, Certificate, Scan, WheatClass};
 pub use reading::reading;
 pub use rules::Rules;
 pub use sheet::{Judged, Outcome};
-pub use station::{Line, LinePhase, PastSet, Phase, Station};
+pub use station::{Held, Line, LinePhase, PastSet, Phase, Station};
 pub use text::TextRefusal;
 
 /// A refused call answers the number.

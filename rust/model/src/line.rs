@@ -42,6 +42,31 @@ impl Verdict {
     }
 }
 
+/// The past sets that a new set is tested with, newest first: all, zero sets among them, for the
+/// averages of two and three; those that aren't zero for the five. There may be more than a test
+/// takes.
+#[derive(Clone, Copy, Debug)]
+pub struct Past<'a> {
+    pub newest: &'a [PastSet],
+    pub nonzero: &'a [PastSet],
+}
+
+impl Past<'_> {
+    /// Past sets more than 14 days old are ignored, of each kind by itself.
+    fn valid(self, rules: &Rules, day: i64) -> Self {
+        Past {
+            newest: valid(rules, day, self.newest),
+            nonzero: valid(rules, day, self.nonzero),
+        }
+    }
+}
+
+/// The sets that are at most 14 days old. Days never rise from newest to oldest.
+fn valid<'a>(rules: &Rules, day: i64, sets: &'a [PastSet]) -> &'a [PastSet] {
+    let young = |set: &&PastSet| day - set.day <= rules.past_days;
+    &sets[..sets.iter().take_while(young).count()]
+}
+
 /// S and N of one set, or of several together.
 #[derive(Clone, Copy)]
 struct Sum {
@@ -72,38 +97,40 @@ impl Sum {
 }
 
 /// Phase new or open: The first test exceeded adjusts by that test's average.
-fn first_exceeded(limits: &Limits, valid: &[PastSet], set: Sum) -> Option<(Test, Sum)> {
+fn first_exceeded(limits: &Limits, valid: Past, set: Sum) -> Option<(Test, Sum)> {
+    let Past { newest, nonzero } = valid;
     // Test |S| against the one-set limit times N.
     if set.exceeds(limits.one) {
         return Some((Test::One, set));
     }
     // If within, and one past set is valid, test the two sets together
-    if !valid.is_empty() && set.with(valid, 1).exceeds(limits.two) {
-        return Some((Test::Two, set.with(valid, 1)));
+    if !newest.is_empty() && set.with(newest, 1).exceeds(limits.two) {
+        return Some((Test::Two, set.with(newest, 1)));
     }
     // with two valid, the three together.
-    if valid.len() >= 2 && set.with(valid, 2).exceeds(limits.three) {
-        return Some((Test::Three, set.with(valid, 2)));
+    if newest.len() >= 2 && set.with(newest, 2).exceeds(limits.three) {
+        return Some((Test::Three, set.with(newest, 2)));
     }
-    // With four valid and all five S above zero or all below, test the five.
-    if valid.len() >= 4 {
-        let past = &valid[..4];
+    // With four valid that aren't zero and all five S above zero or all below, test the five. A
+    // present set with S = 0 is neither.
+    if nonzero.len() >= 4 {
+        let past = &nonzero[..4];
         let above = set.s > 0 && past.iter().all(|set| set.s > 0);
         let below = set.s < 0 && past.iter().all(|set| set.s < 0);
-        if (above || below) && set.with(valid, 4).exceeds(limits.five) {
-            return Some((Test::Five, set.with(valid, 4)));
+        if (above || below) && set.with(nonzero, 4).exceeds(limits.five) {
+            return Some((Test::Five, set.with(nonzero, 4)));
         }
     }
     None
 }
 
-/// What a set with S and N does to a line of this intercept, phase and past (newest first).
+/// What a set with S and N does to a line of this intercept, phase and past.
 pub fn verdict(
     rules: &Rules,
     limits: &Limits,
     intercept: i64,
     phase: LinePhase,
-    past: &[PastSet],
+    past: Past,
     set: PastSet,
 ) -> Verdict {
     if set.n == 0 {
@@ -115,12 +142,7 @@ pub fn verdict(
         LinePhase::Adjusted | LinePhase::Shut => {
             sum.exceeds(limits.check).then_some((Test::Check, sum))
         }
-        LinePhase::New | LinePhase::Open => {
-            // Past sets more than 14 days old are ignored. Days never rise from newest to oldest.
-            let young = |past: &&PastSet| set.day - past.day <= rules.past_days;
-            let count = past.iter().take_while(young).count();
-            first_exceeded(limits, &past[..count], sum)
-        }
+        LinePhase::New | LinePhase::Open => first_exceeded(limits, past.valid(rules, set.day), sum),
     };
     match exceeded {
         None => Verdict::Met,
@@ -140,7 +162,7 @@ pub fn verdict(
 pub fn follow(line: &mut Line, verdict: Verdict, set: PastSet) {
     match verdict {
         // Opens the line with this set as its only past; new and open: the line is open and the
-        // set joins the past.
+        // set joins the past. A zero set joins the newest only.
         Verdict::Met => {
             if matches!(line.phase(), LinePhase::Adjusted | LinePhase::Shut) {
                 line.empty();

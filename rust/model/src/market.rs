@@ -107,8 +107,8 @@ pub struct Request<'a> {
 }
 
 impl Request<'_> {
-    /// The day of the line's newest set. 12: The line is new. In its place 25: Check due after an
-    /// adjustment, and 26: Check due after shutting. 13: That set is too old.
+    /// The day of the line's newest set, a zero one too. 12: The line is new. In its place 25: Check due
+    /// after an adjustment, and 26: Check due after shutting. 13: That set is too old.
     fn set_day(&self, rules: &Rules) -> Result<i64, Refusal> {
         let newest = match (self.phase, self.newest) {
             (LinePhase::Open, Some(newest)) => newest,
@@ -228,7 +228,7 @@ impl Station {
             line: place,
             intercept: line.intercept,
             phase: line.phase(),
-            newest: line.sets().first().copied(),
+            newest: line.newest.sets().first().copied(),
         };
         let certificate = certify(rules, &request, scan, asked, basis)?;
         self.day = day;

@@ -202,7 +202,7 @@ impl Station {
             limits,
             line.intercept,
             line.phase(),
-            line.sets(),
+            line.past(),
             set,
         );
         line::follow(line, verdict, set);

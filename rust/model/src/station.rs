@@ -1,6 +1,7 @@
 //! The station, its lines and past sets, soundness, opening and repair (sections "A line between
 //! sheets" and "Refused calls").
 
+use crate::line::Past;
 use crate::{Refusal, Rules};
 
 /// A phase (new, open, check due), as a sheet's outcome says it.
@@ -72,18 +73,67 @@ pub struct PastSet {
     pub n: i64,
 }
 
+impl PastSet {
+    /// A zero set is one whose S is 0, whatever its deviations.
+    pub fn is_zero(&self) -> bool {
+        self.s == 0
+    }
+}
+
 /// An emptied place holds a blank set.
 pub const BLANK: PastSet = PastSet { day: 0, s: 0, n: 0 };
 
-/// A line has an intercept (fresh: 0), a phase and up to four past sets, newest first. Of the
-/// four places the first `held` are its past sets, the others are spare. Every field may hold any
-/// number, the phase's code too: what a line may hold is told by `sound`.
+/// Past sets of one kind, at most `MOST`, newest first. Of the places the first `count` are held,
+/// the others are spare. Every field may hold any number: what may be held is told by `sound`.
+#[derive(Clone, Copy, Debug, PartialEq, Eq)]
+pub struct Held<const MOST: usize> {
+    pub count: i64,
+    pub places: [PastSet; MOST],
+}
+
+impl<const MOST: usize> Held<MOST> {
+    pub const NONE: Held<MOST> = Held {
+        count: 0,
+        places: [BLANK; MOST],
+    };
+
+    /// The held sets, newest first. Only a sound line is asked.
+    pub fn sets(&self) -> &[PastSet] {
+        &self.places[..self.count as usize]
+    }
+
+    /// The set joins, only the newest `MOST` being held. Every place moves on by one, the spare ones
+    /// too.
+    pub fn join(&mut self, set: PastSet) {
+        self.places.rotate_right(1);
+        self.places[0] = set;
+        self.count = (self.count + 1).min(MOST as i64);
+    }
+
+    /// Their days never rise from newest to oldest nor pass the station's day, N is even from 2 to
+    /// twice the row's samples, and |S| is at most 11000 times N. A day below 0 is no day. Each kind
+    /// is judged by itself.
+    fn sound(&self, rules: &Rules, samples: i64, day: i64) -> bool {
+        let sets = self.sets();
+        sets.iter().all(|set| (0..=day).contains(&set.day))
+            && sets.windows(2).all(|two| two[0].day >= two[1].day)
+            && sets.iter().all(|set| {
+                set.n % 2 == 0
+                    && (2..=2 * samples).contains(&set.n)
+                    && set.s.abs() <= rules.set_average * set.n
+            })
+    }
+}
+
+/// A line has an intercept (fresh: 0), a phase and past sets. It holds its newest two, zero sets
+/// among them, and its newest four that aren't zero. Every field may hold any number, the phase's
+/// code too: what a line may hold is told by `sound`.
 #[derive(Clone, Copy, Debug, PartialEq, Eq)]
 pub struct Line {
     pub intercept: i64,
     pub phase: i64,
-    pub held: i64,
-    pub past: [PastSet; 4],
+    pub newest: Held<2>,
+    pub nonzero: Held<4>,
 }
 
 /// A station holds its row, its lines and the day of its last accepted call (fresh: 0). A grain
@@ -99,8 +149,8 @@ impl Line {
     pub const FRESH: Line = Line {
         intercept: 0,
         phase: LinePhase::New.code(),
-        held: 0,
-        past: [BLANK; 4],
+        newest: Held::NONE,
+        nonzero: Held::NONE,
     };
 
     /// The phase. Only a sound line is asked.
@@ -108,43 +158,46 @@ impl Line {
         LinePhase::of(self.phase).expect("a sound line")
     }
 
-    /// The past sets, newest first. Only a sound line is asked.
-    pub fn sets(&self) -> &[PastSet] {
-        &self.past[..self.held as usize]
+    /// The past sets that the tests look at. Only a sound line is asked.
+    pub fn past(&self) -> Past<'_> {
+        Past {
+            newest: self.newest.sets(),
+            nonzero: self.nonzero.sets(),
+        }
     }
 
-    /// Past sets go: every place holds a blank.
+    /// Past sets go, of both kinds: every place holds a blank.
     pub fn empty(&mut self) {
-        self.held = 0;
-        self.past = [BLANK; 4];
+        self.newest = Held::NONE;
+        self.nonzero = Held::NONE;
     }
 
-    /// The set joins the past, only the newest four being held. Every place moves on by one, the
-    /// spare ones too.
+    /// The set joins the newest and, if it isn't zero, the non-zero ones. A zero set leaves these as
+    /// they are, spare places too.
     pub fn join(&mut self, set: PastSet) {
-        self.past = [set, self.past[0], self.past[1], self.past[2]];
-        self.held = (self.held + 1).min(4);
+        self.newest.join(set);
+        if !set.is_zero() {
+            self.nonzero.join(set);
+        }
     }
 
-    /// Intercepts lie in −1000..1000, an open line has one to four past sets and any other none,
-    /// their days never rise from newest to oldest nor pass the station's day, N is even from 2 to
-    /// twice the row's samples, and |S| is at most 11000 times N.
-    /// A code that stands for no phase and a day below 0 are no phase and no day.
+    /// Intercepts lie in −1000..1000, an open line has one or two newest sets and at most four
+    /// non-zero ones, any other none of either, the sets of either kind are sound, and of the
+    /// non-zero ones S is not 0. A code that stands for no phase is no phase.
     fn sound(&self, rules: &Rules, samples: i64, day: i64) -> bool {
+        let (newest, nonzero) = (self.newest.count, self.nonzero.count);
         let held_fits = match LinePhase::of(self.phase) {
-            Some(LinePhase::Open) => (1..=4).contains(&self.held),
-            Some(LinePhase::New | LinePhase::Adjusted | LinePhase::Shut) => self.held == 0,
+            Some(LinePhase::Open) => (1..=2).contains(&newest) && (0..=4).contains(&nonzero),
+            Some(LinePhase::New | LinePhase::Adjusted | LinePhase::Shut) => {
+                newest == 0 && nonzero == 0
+            }
             None => false,
         };
         held_fits
             && self.intercept.abs() <= rules.intercept
-            && self.sets().iter().all(|set| (0..=day).contains(&set.day))
-            && self.sets().windows(2).all(|two| two[0].day >= two[1].day)
-            && self.sets().iter().all(|set| {
-                set.n % 2 == 0
-                    && (2..=2 * samples).contains(&set.n)
-                    && set.s.abs() <= rules.set_average * set.n
-            })
+            && self.newest.sound(rules, samples, day)
+            && self.nonzero.sound(rules, samples, day)
+            && !self.nonzero.sets().iter().any(PastSet::is_zero)
     }
 }
 

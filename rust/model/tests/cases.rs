@@ -8,7 +8,7 @@ use grain_model::sheet::Sample;
 use grain_model::station::BLANK;
 use grain_model::text::program;
 use grain_model::{
-    Asked, Basis, Book, Certificate, Chart, ChartSet, ChartValues, Judged, Line, LinePhase,
+    Asked, Basis, Book, Certificate, Chart, ChartSet, ChartValues, Held, Judged, Line, LinePhase,
     PastSet, Rules, Scan, Station, Test, Verdict, WheatClass, reading,
 };
 use sheets::{again, twice, wheat_sheet};
@@ -20,7 +20,7 @@ fn wheat() -> Limits {
     Rules::in_force().products[0].lines[0].clone()
 }
 
-/// A wheat station with this line 0.
+/// A wheat station with this line 0, its past sets newest first.
 fn station(phase: LinePhase, intercept: i64, day: i64, past: &[(i64, i64)]) -> Station {
     let mut line = Line {
         intercept,
@@ -43,6 +43,13 @@ fn entered(mut station: Station, day: u32, s: i32) -> (Station, Verdict) {
     assert_eq!((judged.outcome.s, judged.outcome.n), (i64::from(s), 12));
     assert_eq!(judged.outcome.phase, station.lines[0].phase().phase());
     (station, judged.verdict)
+}
+
+/// Day and S of the sets that line 0 holds: its newest, and those that aren't zero.
+fn held(station: &Station) -> [Vec<(i64, i64)>; 2] {
+    let line = &station.lines[0];
+    [line.newest.sets(), line.nonzero.sets()]
+        .map(|sets| sets.iter().map(|set| (set.day, set.s)).collect())
 }
 
 #[test]
@@ -175,7 +182,7 @@ fn orders_of_samples() {
     let judged = answer.unwrap();
     assert_eq!((judged.outcome.s, judged.outcome.n), (30, 10));
     assert_eq!((judged.again, judged.dropped), (2, 1));
-    assert_eq!(after.lines[0].sets()[0].s, 30);
+    assert_eq!(after.lines[0].newest.sets()[0].s, 30);
     // The lowest number over the whole sheet, wherever its sample stands.
     let mut no_third = third;
     no_third[3] = -1;
@@ -200,14 +207,7 @@ fn one_set() {
         (verdict, open.lines[0].phase()),
         (Verdict::Met, LinePhase::Open)
     );
-    assert_eq!(
-        open.lines[0].sets(),
-        [PastSet {
-            day: 3,
-            s: 120,
-            n: 12
-        }]
-    );
+    assert_eq!(held(&open), [&[(3, 120)][..]; 2]);
     assert_eq!(open.day, 3);
     let (adjusted, verdict) = entered(fresh, 3, 121);
     assert_eq!(verdict, Verdict::Adjusted(Test::One, -10));
@@ -224,7 +224,11 @@ fn two_and_three_sets() {
     assert_eq!(entered(open, 20, 99).1, Verdict::Adjusted(Test::Two, -7));
     // 14 days old counts, 15 doesn't.
     assert_eq!(entered(open, 21, 99).1, Verdict::Met);
-    assert_eq!(entered(open, 20, 99).0.lines[0].past, [BLANK; 4]);
+    let adjusted = entered(open, 20, 99).0.lines[0];
+    assert_eq!(
+        (adjusted.newest, adjusted.nonzero),
+        (Held::NONE, Held::NONE)
+    );
     let open = station(LinePhase::Open, 0, 20, &[(7, 60), (6, 60)]);
     assert_eq!(entered(open, 20, 60).1, Verdict::Met);
     assert_eq!(entered(open, 20, 61).1, Verdict::Adjusted(Test::Three, -5));
@@ -251,18 +255,23 @@ fn five_sets() {
         entered(past(-37), 20, -37).1,
         Verdict::Adjusted(Test::Five, 3)
     );
-    // Zero breaks the five, and so does another sign.
+    // Another sign breaks the five.
     let broken = station(
         LinePhase::Open,
         0,
         20,
-        &[(20, 55), (20, 55), (19, 0), (18, 90)],
+        &[(20, 55), (20, 55), (19, -1), (18, 90)],
     );
-    assert_eq!(entered(broken, 20, 55).1, Verdict::Met);
-    // Only the newest four are held.
+    assert_eq!(entered(broken, 20, 60).1, Verdict::Met);
+    // Only the newest two and the newest four that aren't zero are held.
     let (five, _) = entered(past(36), 20, 35);
-    assert_eq!(five.lines[0].held, 4);
-    assert_eq!(five.lines[0].sets()[0].s, 35);
+    assert_eq!(
+        held(&five),
+        [
+            vec![(20, 35), (20, 36)],
+            vec![(20, 35), (20, 36), (20, 36), (19, 36)]
+        ]
+    );
 }
 
 #[test]
@@ -279,14 +288,7 @@ fn checked(due: Station) {
         (verdict, open.lines[0].phase()),
         (Verdict::Met, LinePhase::Open)
     );
-    assert_eq!(
-        open.lines[0].sets(),
-        [PastSet {
-            day: 9,
-            s: 60,
-            n: 12
-        }]
-    );
+    assert_eq!(held(&open), [&[(9, 60)][..]; 2]);
     let (again, verdict) = entered(due, 9, 61);
     assert_eq!(verdict, Verdict::Adjusted(Test::Check, -5));
     assert_eq!(
@@ -338,7 +340,8 @@ fn stored_stations() {
         assert!(refused(unknown));
         let mut spare = open;
         spare.lines[2].phase = phase;
-        spare.lines[2].held = phase;
+        spare.lines[2].newest.count = phase;
+        spare.lines[2].nonzero.count = phase;
         spare.lines[2].intercept = phase;
         spare.repair(&rules, 9).unwrap();
         let repaired = Line {
@@ -348,43 +351,149 @@ fn stored_stations() {
         };
         assert_eq!(spare.lines[2], repaired);
     }
-    let damages: [fn(&mut Station); 6] = [
+    let damages: [fn(&mut Station); 4] = [
+        |station| station.row = 2,
         |station| station.row = -1,
         |station| station.day = -1,
-        |station| station.lines[0].held = -1,
-        |station| station.lines[0].held = 5,
-        |station| station.lines[0].past[1].day = -1,
-        |station| station.lines[0].past[1].n = -12,
+        |station| station.day = 100_000,
     ];
     for damage in damages {
         let mut damaged = open;
         damage(&mut damaged);
         assert!(refused(damaged));
     }
-    // A spare set is moved on as it is.
-    let mut spare = open;
+}
+
+/// Number 0 on a line that is open on day 9.
+fn unsound(line: Line) -> bool {
+    let mut open = station(LinePhase::Open, 0, 9, &[]);
+    open.lines[0] = line;
+    open.repair(&Rules::in_force(), 9) == Err(0)
+}
+
+/// A line of two newest sets, both zero, and four that aren't zero, all of day 5.
+fn both_kinds() -> Line {
+    let past = [(5, 0), (5, 0), (5, 1), (5, 2), (5, 3), (5, 4)];
+    let line = station(LinePhase::Open, 0, 9, &past).lines[0];
+    assert_eq!((line.newest.count, line.nonzero.count), (2, 4));
+    line
+}
+
+/// Days, N and S are judged of each kind by itself.
+#[test]
+fn stored_sets_of_each_kind() {
+    assert!(!unsound(both_kinds()));
+    type Damage = fn(&mut [PastSet]);
+    let sound: [Damage; 5] = [
+        |sets| sets[0].day = 9,
+        |sets| sets[sets.len() - 1].day = 0,
+        |sets| sets[0].s = 11_000 * sets[0].n,
+        |sets| sets[0].s = -11_000 * sets[0].n,
+        |sets| sets[0].n = 2,
+    ];
+    let damages: [Damage; 10] = [
+        |sets| sets[0].day = 10,
+        |sets| sets[1].day = 6,
+        |sets| sets[1].day = -1,
+        |sets| sets[0].day = 4,
+        |sets| sets[1].n = 0,
+        |sets| sets[1].n = 14,
+        |sets| sets[1].n = 11,
+        |sets| sets[1].n = -12,
+        |sets| sets[0].s = 11_000 * sets[0].n + 1,
+        |sets| sets[0].s = -11_000 * sets[0].n - 1,
+    ];
+    let changed = |change: Damage| {
+        let (mut newest, mut nonzero) = (both_kinds(), both_kinds());
+        change(&mut newest.newest.places);
+        change(&mut nonzero.nonzero.places);
+        [unsound(newest), unsound(nonzero)]
+    };
+    assert_eq!(sound.map(changed), [[false; 2]; 5]);
+    assert_eq!(damages.map(changed), [[true; 2]; 10]);
+    // A set that isn't zero has an S other than 0, wherever it stands.
+    for place in 0..4 {
+        let mut line = both_kinds();
+        line.nonzero.places[place].s = 0;
+        assert!(unsound(line));
+        line.nonzero.count = place as i64;
+        assert!(!unsound(line));
+    }
+}
+
+/// The kinds are not compared with each other.
+#[test]
+fn kinds_that_disagree_are_sound() {
+    let mut line = both_kinds();
+    line.newest.count = 1;
+    assert!(!unsound(line));
+    // The non-zero ones newer than the newest, or much older.
+    for day in [0, 9] {
+        line.nonzero.places = line.nonzero.places.map(|set| PastSet { day, ..set });
+        assert!(!unsound(line));
+    }
+    // A newest set that isn't zero, and no non-zero one.
+    line.newest.places[0].s = 7;
+    line.nonzero = Held::NONE;
+    assert!(!unsound(line));
+}
+
+/// A spare set is moved on as it is, with a set that joins its kind.
+#[test]
+fn spare_sets_move_on() {
     let odd = PastSet {
         day: -7,
         s: 1 << 30,
         n: -1,
     };
-    spare.lines[0].past[2] = odd;
+    let mut spare = station(LinePhase::Open, 12, 9, &[(9, 5)]);
+    spare.lines[0].newest.places[1] = odd;
+    spare.lines[0].nonzero.places[1] = odd;
+    spare.lines[0].nonzero.places[2] = BLANK;
+    spare.lines[0].nonzero.places[3] = odd;
+    // A zero set leaves the non-zero ones as they are, spare places too.
     let (after, verdict) = entered(spare, 9, 0);
-    assert_eq!((verdict, after.lines[0].held), (Verdict::Met, 3));
-    assert_eq!(after.lines[0].past[3], odd);
+    assert_eq!((verdict, after.lines[0].newest.count), (Verdict::Met, 2));
+    assert_eq!(after.lines[0].newest.places[1].s, 5);
+    assert_eq!(after.lines[0].nonzero, spare.lines[0].nonzero);
+    let (after, _) = entered(spare, 9, 6);
+    assert_eq!((after.lines[0].nonzero.count, after.day), (2, 9));
+    assert_eq!(after.lines[0].nonzero.places[1].s, 5);
+    assert_eq!(after.lines[0].nonzero.places[2..], [odd, BLANK]);
+    // A new line's spare places move on too.
+    let mut new = station(LinePhase::New, 12, 9, &[]);
+    new.lines[0].newest.places[0] = odd;
+    new.lines[0].nonzero.places[0] = odd;
+    let (after, _) = entered(new, 9, 6);
+    assert_eq!(after.lines[0].newest.places[1], odd);
+    assert_eq!(after.lines[0].nonzero.places[1], odd);
 }
 
-/// An open line has one to four past sets and any other none.
+/// An open line has one or two newest sets and at most four that aren't zero, any other none of
+/// either.
 #[test]
 fn only_open_lines_hold_sets() {
-    let rules = Rules::in_force();
-    let answer = |phase, past: &[_]| station(phase, -1000, 9, past).repair(&rules, 9);
+    let with = |phase: LinePhase, newest: i64, nonzero: i64| {
+        let mut line = both_kinds();
+        line.phase = phase.code();
+        (line.newest.count, line.nonzero.count) = (newest, nonzero);
+        unsound(line)
+    };
     for (phase, _) in NOT_OPEN {
-        assert_eq!(answer(phase, &[]), Ok(()));
-        assert_eq!(answer(phase, &[(9, 5)]), Err(0));
+        assert!(!with(phase, 0, 0));
+        assert!(with(phase, 1, 0) && with(phase, 0, 1) && with(phase, 1, 1));
     }
-    assert_eq!(answer(LinePhase::Open, &[]), Err(0));
-    assert_eq!(answer(LinePhase::Open, &[(9, 5)]), Ok(()));
+    for nonzero in 0..=4 {
+        for newest in [1, 2] {
+            assert!(!with(LinePhase::Open, newest, nonzero));
+        }
+        for newest in [0, 3, -1, i64::from(i32::MIN), i64::from(i32::MAX)] {
+            assert!(with(LinePhase::Open, newest, nonzero));
+        }
+    }
+    for nonzero in [5, -1, i64::from(i32::MIN), i64::from(i32::MAX)] {
+        assert!(with(LinePhase::Open, 2, nonzero));
+    }
 }
 
 /// The phases in which no market grain is tested, with their numbers.
@@ -930,8 +1039,10 @@ fn the_book_agrees() {
         assert_eq!(book.sheet(&rules, day, 0, &numbers), Ok(judged.outcome));
         assert_eq!(book.intercept(0), station.lines[0].intercept);
         assert_eq!(book.phase(0), station.lines[0].phase());
-        let held = station.lines[0].sets();
-        assert_eq!(book.past(0)[..held.len()], *held);
+        let (newest, nonzero) = (book.past(0), book.nonzero(0));
+        let held = &station.lines[0];
+        assert_eq!(newest[..newest.len().min(2)], *held.newest.sets());
+        assert_eq!(nonzero[..nonzero.len().min(4)], *held.nonzero.sets());
     }
     assert_eq!(station.lines[0].phase(), LinePhase::Open);
 }

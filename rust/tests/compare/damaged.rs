@@ -1,14 +1,16 @@
 //! Damaged models: each number of the rules off by one, models that tell the lines that aren't open
-//! wrongly, wrong calendars, lots stated wrongly, and charts that plot or judge wrongly.
+//! wrongly, that take zero sets wrongly (kinds.rs), wrong calendars, lots stated wrongly, and charts that
+//! plot or judge wrongly.
 
 use grain_model::lot::{bad_sublot, statement, unlike_basis};
 use grain_model::rules::{CalendarRules, ChartRow, LotRules};
 use grain_model::{
-    Calendar, Chart, ChartSet, ChartValues, Line, LinePhase, LotStatement, Rules, Station, Sublot,
-    Verdict, ship_lot,
+    Calendar, Certificate, Chart, ChartSet, ChartValues, Line, LinePhase, LotStatement, Rules,
+    Station, Sublot, Verdict, ship_lot,
 };
 
 use crate::encode::{self, StationPlaces};
+use crate::kinds::{Kind, Of};
 use crate::markets;
 use crate::plots::{self, EXACT, PLOT, Plotted, SIXTIETHS};
 use crate::stations::Request;
@@ -127,7 +129,7 @@ pub enum Wrong {
     Exchanged,
     /// 25 and 26 tried before 11.
     BeforeCorrected,
-    /// 13 tried before 25 and 26, by the first place of the past.
+    /// 13 tried before 25 and 26, by the first place of the newest sets.
     AfterOldSet,
     /// 14 tried before 25 and 26.
     AfterHighValue,
@@ -143,6 +145,70 @@ pub enum Wrong {
     RepairShuts,
     /// A repair makes a line new whose check is due.
     RepairForgets,
+    /// A zero set that joins an open or new line is held among the non-zero ones too.
+    ZeroJoins,
+    /// A zero set that opens a line by its check is held among the non-zero ones too.
+    ZeroOpens,
+    /// A zero set moves the places of the non-zero ones on, and none more is held.
+    ZeroMovesOn,
+    /// A zero set blanks the spare places of the non-zero ones.
+    ZeroBlanks,
+    /// Only sets that aren't zero are the newest.
+    ZeroIsNotNewest,
+    /// A zero set is tested for five, with four non-zero ones on one side.
+    ZeroTested,
+    /// A zero set among the newest four breaks the five.
+    ZeroBreaks,
+    /// Signs don't break the five.
+    SignsIgnored,
+    /// Zero sets are passed over in the averages of two and three too.
+    PassedOverByAll,
+    /// The averages of two and three are left out for a zero set.
+    ZeroNotAveraged,
+    /// The five is tested with three non-zero sets as well.
+    FourForFive,
+    /// The five is tested only where two newest sets are valid.
+    FiveNeedsTwo,
+    /// The five is tested only where a newest set is valid.
+    FiveNeedsOne,
+    /// The five takes non-zero sets of any age.
+    FiveIgnoresAge,
+    /// The five takes non-zero sets where the newest set is valid, whatever their age.
+    FiveByNewestAge,
+    /// Sets of one kind count for 15 days.
+    FifteenDays(Kind),
+    /// Sets of one kind count for 13 days.
+    ThirteenDays(Kind),
+    /// Three newest sets are held.
+    ThreeNewest,
+    /// Three non-zero sets are held.
+    ThreeNonzero,
+    /// Non-zero sets survive a repair.
+    SurviveRepair,
+    /// Non-zero sets survive an adjustment.
+    SurviveAdjustment,
+    /// Non-zero sets survive shutting.
+    SurviveShutting,
+    /// A certificate carries the day of the newest non-zero set.
+    DayOfNonzero,
+    /// Number 13 looks at the newest non-zero set.
+    AgeOfNonzero,
+    /// Number 0 wants the newest non-zero set to be no newer than the newest set.
+    KindsCompared,
+    /// Number 0 wants the newest sets that aren't zero among the non-zero ones.
+    KindsShared,
+    /// Number 0 wants two newest sets where four non-zero ones are held.
+    TwoBesideFour,
+    /// Number 0 wants a non-zero set on an open line.
+    NonzeroNeeded,
+    /// Number 0 allows zero sets among the non-zero ones.
+    ZeroAllowed,
+    /// Number 0 allows sets of one kind on a line that isn't open.
+    HeldAnywhere(Kind),
+    /// Number 0 allows an open line whose only sets are non-zero ones.
+    NonzeroAlone,
+    /// Number 0 doesn't look at one of the numbers of one kind's sets.
+    Unseen(Kind, Of),
     /// Every fourth year is a leap year, 2100 and 2200 too.
     EveryFourthYear,
     /// Saturday is a working day.
@@ -243,7 +309,7 @@ pub enum Wrong {
     HeldTimesCount,
 }
 
-pub const WRONG: [Wrong; 60] = [
+pub const WRONG: [Wrong; 100] = [
     Wrong::OneNumber,
     Wrong::Exchanged,
     Wrong::BeforeCorrected,
@@ -255,6 +321,46 @@ pub const WRONG: [Wrong; 60] = [
     Wrong::RepairAdjusts,
     Wrong::RepairShuts,
     Wrong::RepairForgets,
+    Wrong::ZeroJoins,
+    Wrong::ZeroOpens,
+    Wrong::ZeroMovesOn,
+    Wrong::ZeroBlanks,
+    Wrong::ZeroIsNotNewest,
+    Wrong::ZeroTested,
+    Wrong::ZeroBreaks,
+    Wrong::SignsIgnored,
+    Wrong::PassedOverByAll,
+    Wrong::ZeroNotAveraged,
+    Wrong::FourForFive,
+    Wrong::FiveNeedsTwo,
+    Wrong::FiveNeedsOne,
+    Wrong::FiveIgnoresAge,
+    Wrong::FiveByNewestAge,
+    Wrong::FifteenDays(Kind::Newest),
+    Wrong::FifteenDays(Kind::Nonzero),
+    Wrong::ThirteenDays(Kind::Newest),
+    Wrong::ThirteenDays(Kind::Nonzero),
+    Wrong::ThreeNewest,
+    Wrong::ThreeNonzero,
+    Wrong::SurviveRepair,
+    Wrong::SurviveAdjustment,
+    Wrong::SurviveShutting,
+    Wrong::DayOfNonzero,
+    Wrong::AgeOfNonzero,
+    Wrong::KindsCompared,
+    Wrong::KindsShared,
+    Wrong::TwoBesideFour,
+    Wrong::NonzeroNeeded,
+    Wrong::ZeroAllowed,
+    Wrong::HeldAnywhere(Kind::Newest),
+    Wrong::HeldAnywhere(Kind::Nonzero),
+    Wrong::NonzeroAlone,
+    Wrong::Unseen(Kind::Newest, Of::Day),
+    Wrong::Unseen(Kind::Newest, Of::S),
+    Wrong::Unseen(Kind::Newest, Of::N),
+    Wrong::Unseen(Kind::Nonzero, Of::Day),
+    Wrong::Unseen(Kind::Nonzero, Of::S),
+    Wrong::Unseen(Kind::Nonzero, Of::N),
     Wrong::EveryFourthYear,
     Wrong::SaturdayWorks,
     Wrong::StartCounted,
@@ -318,26 +424,27 @@ impl Wrong {
         rules
     }
 
-    /// The station after an accepted sheet with this verdict.
-    pub fn sheet(self, before: &StationPlaces, after: &mut Station, line: u64, verdict: Verdict) {
-        let place = line as usize;
+    /// The phase of a line after an accepted sheet with this verdict, in place of the right one.
+    pub fn phase(self, before: LinePhase, verdict: Verdict) -> Option<LinePhase> {
         let shut = matches!(verdict, Verdict::NothingKept | Verdict::Bounded(_));
         let adjusted = matches!(verdict, Verdict::Adjusted(..));
-        let phase = match (self, encode::station(before).lines[place].phase()) {
+        match (self, before) {
             (Wrong::ShutByNothingKept, _) if matches!(verdict, Verdict::Bounded(_)) => {
-                LinePhase::Adjusted
+                Some(LinePhase::Adjusted)
             }
-            (Wrong::StaysShut, LinePhase::Shut) if adjusted => LinePhase::Shut,
-            (Wrong::StaysAdjusted, LinePhase::Adjusted) if shut => LinePhase::Adjusted,
-            _ => return,
-        };
-        after.lines[place].phase = phase.code();
+            (Wrong::StaysShut, LinePhase::Shut) if adjusted => Some(LinePhase::Shut),
+            (Wrong::StaysAdjusted, LinePhase::Adjusted) if shut => Some(LinePhase::Adjusted),
+            _ => None,
+        }
     }
 
     /// The station after an accepted repair.
     pub fn repair(self, before: &StationPlaces, after: &mut Station) {
         let before = encode::station(before);
         for (line, then) in before.lines.iter().zip(&mut after.lines) {
+            if self == Wrong::SurviveRepair && line.phase == LinePhase::Open.code() {
+                then.nonzero = line.nonzero;
+            }
             let phase = match (self, LinePhase::of(line.phase)) {
                 (Wrong::RepairAdjusts, Some(LinePhase::Shut)) => LinePhase::Adjusted,
                 (Wrong::RepairShuts, Some(LinePhase::Adjusted)) => LinePhase::Shut,
@@ -350,8 +457,13 @@ impl Wrong {
         }
     }
 
-    /// The number in place of the right one that refuses a market test.
-    pub fn number(self, before: &StationPlaces, request: Request, right: u8) -> u8 {
+    /// The answer in place of the right one to a market test.
+    pub fn market(
+        self,
+        before: &StationPlaces,
+        request: Request,
+        right: Result<Certificate, u8>,
+    ) -> Result<Certificate, u8> {
         let station = encode::station(before);
         let Some(line) = usize::try_from(request.line)
             .ok()
@@ -359,8 +471,16 @@ impl Wrong {
         else {
             return right;
         };
-        let old = |line: &Line| i64::from(request.day) - line.past[0].day > 7;
-        let high = || request.asked == 0 && markets::too_high(&station, line, request);
+        match right {
+            Ok(certificate) => self.certificate(line, request, certificate),
+            Err(number) => Err(self.number(&station, line, request, number)),
+        }
+    }
+
+    /// The number in place of the right one that refuses a market test.
+    fn number(self, station: &Station, line: &Line, request: Request, right: u8) -> u8 {
+        let old = |line: &Line| i64::from(request.day) - line.newest.places[0].day > 7;
+        let high = || request.asked == 0 && markets::too_high(station, line, request);
         match (self, right) {
             (Wrong::OneNumber, 25 | 26) => 12,
             (Wrong::Exchanged, 25) => 26,

@@ -1,8 +1,10 @@
 //! The places of the C interface as the model's states, and back. Any number may stand in any place.
 
-use grain_model::{Chart, ChartSet, Line, PastSet, Station};
+use grain_model::{Chart, ChartSet, Held, Line, PastSet, Station};
 
-pub const STATION: usize = 47;
+pub const STATION: usize = 68;
+/// Where each line's places begin.
+pub const LINES: [usize; 3] = [2, 24, 46];
 pub const CHART: usize = 15;
 
 pub type StationPlaces = [i32; STATION];
@@ -18,12 +20,20 @@ fn chart_set(places: &[i32]) -> ChartSet {
     ChartSet { count, plot, range }
 }
 
+/// How many sets are held, and the sets.
+fn held<const MOST: usize>(places: &[i32]) -> Held<MOST> {
+    Held {
+        count: places[0].into(),
+        places: std::array::from_fn(|set| past_set(&places[1 + 3 * set..])),
+    }
+}
+
 fn line(places: &[i32]) -> Line {
     Line {
         intercept: places[0].into(),
         phase: places[1].into(),
-        held: places[2].into(),
-        past: [3, 6, 9, 12].map(|start| past_set(&places[start..])),
+        newest: held(&places[2..]),
+        nonzero: held(&places[9..]),
     }
 }
 
@@ -31,7 +41,7 @@ pub fn station(places: &StationPlaces) -> Station {
     Station {
         row: places[0].into(),
         day: places[1].into(),
-        lines: [2, 17, 32].map(|start| line(&places[start..])),
+        lines: LINES.map(|start| line(&places[start..])),
     }
 }
 
@@ -51,12 +61,19 @@ fn places<const LEN: usize>(numbers: impl Iterator<Item = i64>) -> [i32; LEN] {
     numbers.try_into().unwrap()
 }
 
+fn held_places<const MOST: usize>(held: Held<MOST>) -> impl Iterator<Item = i64> {
+    let set = |set: PastSet| [set.day, set.s, set.n];
+    [held.count]
+        .into_iter()
+        .chain(held.places.into_iter().flat_map(set))
+}
+
 pub fn station_places(station: &Station) -> StationPlaces {
-    let set = |set: &PastSet| [set.day, set.s, set.n];
     let line = |line: &Line| {
-        let mut numbers = vec![line.intercept, line.phase, line.held];
-        numbers.extend(line.past.iter().flat_map(set));
-        numbers
+        [line.intercept, line.phase]
+            .into_iter()
+            .chain(held_places(line.newest))
+            .chain(held_places(line.nonzero))
     };
     let head = [station.row, station.day].into_iter();
     places(head.chain(station.lines.iter().flat_map(line)))

@@ -2,8 +2,9 @@
 
 use grain_model::rules::Limits;
 use grain_model::sheet::Sample;
-use grain_model::{Judged, Line, LinePhase, PastSet, Phase, Station, Test, Verdict};
+use grain_model::{Line, LinePhase, PastSet, Phase, Station};
 
+use crate::averages::Accepted;
 use crate::encode;
 use crate::history;
 use crate::lent::Difference;
@@ -16,6 +17,8 @@ use crate::stations::{Subject, Trial};
 enum Mood {
     /// Small averages of one sign on neighbouring days, so that five sets come together.
     Steady,
+    /// The same with zero sets between, which the five pass over.
+    Zeros,
     /// The limits of the averages.
     Edges,
     /// Intercepts near their bound.
@@ -26,8 +29,9 @@ enum Mood {
     Mixed,
 }
 
-const MOODS: [Mood; 5] = [
+const MOODS: [Mood; 6] = [
     Mood::Steady,
+    Mood::Zeros,
     Mood::Edges,
     Mood::Bound,
     Mood::Outliers,
@@ -36,7 +40,7 @@ const MOODS: [Mood; 5] = [
 
 /// How a list's calls are chosen.
 #[derive(Clone, Copy)]
-struct Lean {
+pub struct Lean {
     mood: Mood,
     /// The line that most sheets of a steady list are for.
     line: u64,
@@ -44,6 +48,10 @@ struct Lean {
 }
 
 impl Lean {
+    fn is_steady(self) -> bool {
+        matches!(self.mood, Mood::Steady | Mood::Zeros)
+    }
+
     fn any(rng: &mut Rng) -> Lean {
         Lean {
             mood: rng.pick(&MOODS),
@@ -107,10 +115,11 @@ pub fn seen(subject: &Subject) -> Station {
 }
 
 fn any_call(trial: &mut Trial, subject: &mut Subject, lean: Lean) -> Result<(), Difference> {
+    let sheets = if lean.mood == Mood::Zeros { 75 } else { 60 };
     match trial.rng.below(100) {
-        0..60 => sheet(trial, subject, lean),
-        60..94 => market(trial, subject, lean.ending),
-        _ => repair(trial, subject, lean.ending),
+        call if call < sheets => sheet(trial, subject, lean),
+        ..94 => market(trial, subject, lean),
+        _ => repair(trial, subject, lean),
     }
 }
 
@@ -135,28 +144,42 @@ pub fn line_of(station: &Station, line: u64) -> &Line {
 }
 
 /// A day, mostly the station's or the next, or beside the edges of 7 and 14 days.
-pub fn a_day(rng: &mut Rng, station: &Station, line: &Line, ending: bool) -> u32 {
+pub fn a_day(rng: &mut Rng, station: &Station, line: &Line, lean: Lean) -> u32 {
     let day = station.day;
-    let edge = |rng: &mut Rng| match line.sets() {
-        [] => day + 1,
-        sets => rng.pick(sets).day + rng.pick(&[7, 8, 14, 15]),
-    };
     let day = match rng.below(100) {
         0..50 => day,
         50..68 => day + 1,
         68..76 => day + rng.range(0, 6),
-        76..95 => edge(rng).max(day),
+        76..95 => edge_day(rng, station, line, lean).max(day),
         95..97 => day - 1,
         97 => rng.pick(&[100_000, i64::from(u32::MAX), 1 << 31]),
-        _ if ending => rng.pick(&[99_998, 99_999, 100_000]),
+        _ if lean.ending => rng.pick(&[99_998, 99_999, 100_000]),
         _ => day,
     };
     day as u32
 }
 
-fn repair(trial: &mut Trial, subject: &mut Subject, ending: bool) -> Result<(), Difference> {
+/// The day on which a set is 7, 8, 14 or 15 days old. Where zero sets are to come between, mostly the
+/// station's day, or one on which the sets that aren't zero just count, or just not.
+fn edge_day(rng: &mut Rng, station: &Station, line: &Line, lean: Lean) -> i64 {
+    let (newest, nonzero) = (line.newest.sets(), line.nonzero.sets());
+    let later = |set: Option<&PastSet>, days| set.map_or(station.day, |set| set.day + days);
+    if lean.mood == Mood::Zeros && rng.chance(85) {
+        return match rng.below(10) {
+            0..3 => later(nonzero.last(), rng.pick(&[14, 15])),
+            3..5 => later(nonzero.first(), rng.pick(&[8, 15])),
+            _ => station.day,
+        };
+    }
+    match &[newest, nonzero].concat()[..] {
+        [] => station.day + 1,
+        sets => rng.pick(sets).day + rng.pick(&[7, 8, 14, 15]),
+    }
+}
+
+fn repair(trial: &mut Trial, subject: &mut Subject, lean: Lean) -> Result<(), Difference> {
     let station = seen(subject);
-    let day = a_day(&mut trial.rng, &station, &station.lines[0], ending);
+    let day = a_day(&mut trial.rng, &station, &station.lines[0], lean);
     if trial.repair(subject, day)?.is_err() {
         return Ok(());
     }
@@ -167,6 +190,8 @@ fn repair(trial: &mut Trial, subject: &mut Subject, ending: bool) -> Result<(), 
             LinePhase::Adjusted => "repair: adjusted line",
             LinePhase::Shut => "repair: shut line",
         });
+        let none = line.nonzero.sets().is_empty();
+        trial.met.branch_if(!none, "repair: non-zero sets go");
     }
     Ok(())
 }
@@ -183,13 +208,13 @@ fn limits_of(row: i64, line: u64) -> Limits {
 
 fn sheet(trial: &mut Trial, subject: &mut Subject, lean: Lean) -> Result<(), Difference> {
     let station = seen(subject);
-    let favoured = lean.mood == Mood::Steady && station.row == 1 && trial.rng.chance(85);
+    let favoured = lean.is_steady() && station.row == 1 && trial.rng.chance(85);
     let line = match favoured {
         true => lean.line,
         false => a_line(&mut trial.rng, &station),
     };
     let held = line_of(&station, line);
-    let day = a_day(&mut trial.rng, &station, held, lean.ending);
+    let day = a_day(&mut trial.rng, &station, held, lean);
     let limits = limits_of(station.row, line);
     let samples = if station.row == 0 { 6 } else { 4 };
     let writer = &mut Writer {
@@ -201,9 +226,11 @@ fn sheet(trial: &mut Trial, subject: &mut Subject, lean: Lean) -> Result<(), Dif
     if writer.rng.chance(12) {
         damage(writer.rng, &mut numbers);
     }
+    let past = subject.book.as_ref().map(|book| book.past(line as usize));
     let answer = trial.sheet_in_orders(subject, day, line, &numbers)?;
     if let Ok(judged) = answer {
-        count_sheet(trial, held, &limits, i64::from(day), &judged);
+        let day = i64::from(day);
+        Accepted::new(held, &limits, day, &judged, past.as_deref()).count(&mut trial.met);
         count_samples(trial, &limits, held.intercept, &numbers);
         let (s, n) = (judged.outcome.s, judged.outcome.n);
         let events = &subject.history[line as usize];
@@ -249,19 +276,14 @@ impl Writer<'_> {
     /// The S to reach with this N.
     fn wanted(&mut self, mood: Mood, line: &Line, day: i64, n: i64) -> i64 {
         let limits = self.limits;
-        let steady = |rng: &mut Rng| {
-            let sign = line
-                .sets()
-                .first()
-                .map_or(1, |set| if set.s < 0 { -1 } else { 1 });
-            sign * rng.range((limits.five - 1) * n, limits.five * n + n / 2)
-        };
         match mood {
-            Mood::Steady if self.rng.chance(80) => steady(self.rng),
+            Mood::Steady if self.rng.chance(80) => self.steady(line, n),
+            Mood::Zeros if self.rng.chance(45) => 0,
+            Mood::Zeros if self.rng.chance(85) => self.steady(line, n),
             Mood::Bound if self.rng.chance(50) => self.bound(n),
             _ => match self.rng.below(10) {
                 0..6 => self.edge(line, day, n),
-                6 => steady(self.rng),
+                6 => self.steady(line, n),
                 7 => self.rng.range(-3, 3),
                 8 => self.rng.range(-2 * limits.one * n, 2 * limits.one * n),
                 _ if self.rng.chance(25) => self.bound(n),
@@ -274,18 +296,32 @@ impl Writer<'_> {
         }
     }
 
+    /// An S beside the limit of five, sometimes up to that of three, on the side of the newest set that
+    /// isn't zero.
+    fn steady(&mut self, line: &Line, n: i64) -> i64 {
+        let limits = self.limits;
+        let below = line.nonzero.sets().first().is_some_and(|set| set.s < 0);
+        let s = match self.rng.chance(70) {
+            true => self
+                .rng
+                .range((limits.five - 1) * n, limits.five * n + n / 2),
+            false => self.rng.range(limits.five * n, limits.three * n),
+        };
+        if below { -s } else { s }
+    }
+
     /// An S at or beside the limit of one of the tests.
     fn edge(&mut self, line: &Line, day: i64, n: i64) -> i64 {
         let limits = self.limits;
-        let sets = line.sets();
-        let (count, limit) = match line.phase().phase() {
-            Phase::CheckDue => (0, limits.check),
+        let (newest, nonzero) = (line.newest.sets(), line.nonzero.sets());
+        let (sets, count, limit) = match line.phase().phase() {
+            Phase::CheckDue => (newest, 0, limits.check),
             _ => self.rng.pick(&[
-                (0, limits.one),
-                (1, limits.two),
-                (2, limits.three),
-                (4, limits.five),
-                (4, limits.five),
+                (newest, 0, limits.one),
+                (newest, 1, limits.two),
+                (newest, 2, limits.three),
+                (nonzero, 4, limits.five),
+                (nonzero, 4, limits.five),
             ]),
         };
         let past: Vec<&PastSet> = sets
@@ -323,7 +359,11 @@ impl Writer<'_> {
         deviations[0] += sum.rem_euclid(count as i64);
         for _ in 0..self.rng.below(3) {
             let most = self.rng.pick(&[4, 40, 2 * self.limits.range]);
-            let shift = self.rng.range(0, most);
+            // Sometimes two are as far apart as the range limit allows, or just further.
+            let shift = match self.rng.chance(8) {
+                true => self.limits.range + self.rng.range(0, 1),
+                false => self.rng.range(0, most),
+            };
             let (one, other) = (self.rng.below(count), self.rng.below(count));
             deviations[one] += shift;
             deviations[other] -= shift;
@@ -480,126 +520,6 @@ fn wrong_third(sample: &mut [i32]) {
 fn wrong_again(rng: &mut Rng, sample: &mut [i32]) {
     let pair = rng.pick(&[[-1, -1], [1300, 1310], [1300, 1310], [-1, 1300], [1300, -1]]);
     sample[4..6].copy_from_slice(&pair);
-}
-
-/// The branches of an accepted sheet on this line.
-fn count_sheet(trial: &mut Trial, line: &Line, limits: &Limits, day: i64, judged: &Judged) {
-    let met = &mut trial.met;
-    let (s, n) = (judged.outcome.s, judged.outcome.n);
-    met.branch_if(judged.again > 0, "sheet: again round");
-    met.branch_if(judged.again > judged.dropped, "sheet: again pair kept");
-    met.branch_if(judged.dropped > 0 && n > 0, "sheet: some samples dropped");
-    met.branch_if(day == 99_999, "sheet: on the last day");
-    met.branch(verdict_name(line, judged.verdict));
-    if let Verdict::Adjusted(test, change) = judged.verdict {
-        let bound = (line.intercept + change).abs() == 1000;
-        met.branch_if(bound, "sheet: adjusted to the bound itself");
-        let single = matches!(test, Test::One | Test::Check);
-        let half = single && (2 * s) % n == 0 && s % n != 0;
-        met.branch_if(half, "sheet: average rounded at a half");
-    }
-    if judged.verdict == Verdict::Met {
-        count_met(trial, line, limits, PastSet { day, s, n });
-    }
-    count_ages(trial, line, limits, day, judged);
-}
-
-/// The branch of a verdict on this line.
-fn verdict_name(line: &Line, verdict: Verdict) -> &'static str {
-    match verdict {
-        Verdict::NothingKept => match line.phase() {
-            LinePhase::New => "sheet: shut, nothing kept, new line",
-            LinePhase::Open => "sheet: shut, nothing kept, open line",
-            LinePhase::Adjusted => "sheet: shut, nothing kept, adjusted line",
-            LinePhase::Shut => "sheet: shut, nothing kept, shut line",
-        },
-        Verdict::Met => match line.phase() {
-            LinePhase::New => "sheet: opens a new line",
-            LinePhase::Open => "sheet: joins an open line",
-            LinePhase::Adjusted => "sheet: opens an adjusted line",
-            LinePhase::Shut => "sheet: opens a shut line",
-        },
-        Verdict::Adjusted(Test::One, _) => "sheet: one exceeded",
-        Verdict::Adjusted(Test::Two, _) => "sheet: two exceeded",
-        Verdict::Adjusted(Test::Three, _) => "sheet: three exceeded",
-        Verdict::Adjusted(Test::Five, _) => "sheet: five exceeded",
-        Verdict::Adjusted(Test::Check, _) => match line.phase() {
-            LinePhase::Shut => "sheet: check exceeded, shut line",
-            _ => "sheet: check exceeded, adjusted line",
-        },
-        Verdict::Bounded(Test::One) => "sheet: shut at the bound, one",
-        Verdict::Bounded(Test::Two) => "sheet: shut at the bound, two",
-        Verdict::Bounded(Test::Three) => "sheet: shut at the bound, three",
-        Verdict::Bounded(Test::Five) => "sheet: shut at the bound, five",
-        Verdict::Bounded(Test::Check) => match line.phase() {
-            LinePhase::Shut => "sheet: shut at the bound, check of a shut line",
-            _ => "sheet: shut at the bound, check of an adjusted line",
-        },
-    }
-}
-
-/// Tests that were just not exceeded, and what broke the five.
-fn count_met(trial: &mut Trial, line: &Line, limits: &Limits, set: PastSet) {
-    let met = &mut trial.met;
-    let young = |past: &&PastSet| set.day - past.day <= 14;
-    let valid: Vec<PastSet> = line.sets().iter().filter(young).copied().collect();
-    let at = |count: usize, limit: i64| {
-        let past = &valid[..count];
-        let s = set.s + past.iter().map(|past| past.s).sum::<i64>();
-        let n = set.n + past.iter().map(|past| past.n).sum::<i64>();
-        s.abs() == limit * n
-    };
-    if line.phase().phase() == Phase::CheckDue {
-        met.branch_if(at(0, limits.check), at_check_limit(line));
-        return;
-    }
-    met.branch_if(at(0, limits.one), "sheet: at the one limit");
-    met.branch_if(
-        !valid.is_empty() && at(1, limits.two),
-        "sheet: at the two limit",
-    );
-    met.branch_if(
-        valid.len() > 1 && at(2, limits.three),
-        "sheet: at the three limit",
-    );
-    met.branch_if(line.held == 4, "sheet: oldest of four leaves");
-    if valid.len() < 4 {
-        return;
-    }
-    let all: Vec<i64> = valid.iter().map(|past| past.s).chain([set.s]).collect();
-    let sign = all[0].signum();
-    let one_sign = sign != 0 && all.iter().all(|s| s.signum() == sign);
-    met.branch_if(one_sign && at(4, limits.five), "sheet: at the five limit");
-    let n = set.n + valid.iter().map(|past| past.n).sum::<i64>();
-    let above = all.iter().sum::<i64>().abs() > limits.five * n;
-    met.branch_if(above && all.contains(&0), "sheet: zero breaks the five");
-    met.branch_if(above && !all.contains(&0), "sheet: signs break the five");
-}
-
-fn at_check_limit(line: &Line) -> &'static str {
-    match line.phase() {
-        LinePhase::Shut => "sheet: at the check limit, shut line",
-        _ => "sheet: at the check limit, adjusted line",
-    }
-}
-
-/// Newest past sets at the age of 14 and 15 days where the two together are above their limit.
-fn count_ages(trial: &mut Trial, line: &Line, limits: &Limits, day: i64, judged: &Judged) {
-    let Some(newest) = line.sets().first() else {
-        return;
-    };
-    let (s, n) = (judged.outcome.s + newest.s, judged.outcome.n + newest.n);
-    let above = s.abs() > limits.two * n;
-    let age = day - newest.day;
-    let two_exceeded = matches!(judged.verdict, Verdict::Adjusted(Test::Two, _));
-    let counts = age == 14 && above && two_exceeded;
-    trial
-        .met
-        .branch_if(counts, "sheet: a set 14 days old counts");
-    let ignored = age == 15 && above && judged.verdict == Verdict::Met;
-    trial
-        .met
-        .branch_if(ignored, "sheet: a set 15 days old is ignored");
 }
 
 /// The branches of a sheet's samples.

@@ -5,11 +5,13 @@
 //! `GRAIN_DAMAGE=n` runs the comparison with the n-th number of the model off by one, to see it
 //! fail. `GRAIN_SEED=n` takes another seed.
 
+mod averages;
 mod calendars;
 mod charts;
 mod damaged;
 mod encode;
 mod history;
+mod kinds;
 mod lent;
 mod lists;
 mod lots;
@@ -105,6 +107,7 @@ fn compare(trial: &mut Trial, extent: &Extent) -> Result<(), Difference> {
     }
     for _ in 0..extent.handed_in {
         unsound::unsound_station(trial)?;
+        unsound::kinds_apart(trial)?;
         unsound::spare_places(trial)?;
         unsound::any_station(trial)?;
         unsound::unsound_chart(trial)?;

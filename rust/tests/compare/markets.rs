@@ -1,10 +1,10 @@
 //! Random market tests, biased to every branch of the rules, and what they met.
 
-use grain_model::{Certificate, Line, LinePhase, Station};
+use grain_model::{Certificate, Line, LinePhase, PastSet, Station};
 
 use crate::history;
 use crate::lent::Difference;
-use crate::lists::{a_day, a_line, line_of, seen};
+use crate::lists::{Lean, a_day, a_line, line_of, seen};
 use crate::met::Met;
 use crate::rng::Rng;
 use crate::stations::{Request, Subject, Trial};
@@ -109,12 +109,12 @@ fn some_floats(rng: &mut Rng, asked: usize, reading: i64) -> [u32; 3] {
 }
 
 /// A market test of any kind on a station.
-pub fn market(trial: &mut Trial, subject: &mut Subject, ending: bool) -> Result<(), Difference> {
+pub fn market(trial: &mut Trial, subject: &mut Subject, lean: Lean) -> Result<(), Difference> {
     let station = seen(subject);
     let rng = &mut trial.rng;
     let line = a_line(rng, &station);
     let held = line_of(&station, line);
-    let day = a_day(rng, &station, held, ending);
+    let day = a_day(rng, &station, held, lean);
     let asked = an_asked(rng, station.row);
     let gluten = asked > 0;
     let standard = if station.row == 0 { 1200 } else { 0 };
@@ -153,6 +153,7 @@ pub fn market(trial: &mut Trial, subject: &mut Subject, ending: bool) -> Result<
     if let (Some(_), Err(number)) = (&subject.book, answer) {
         history::count_not_open(met, &subject.history, request, number);
     }
+    count_newest(met, held, request, answer);
     match gluten {
         true => count_gluten(met, &station, held, request, answer),
         false => count_line_figure(met, &station, held, request, answer),
@@ -171,8 +172,30 @@ fn bad(float: u32) -> bool {
 
 /// The age of the line's newest set on the day of the request.
 fn age(line: &Line, request: Request) -> Option<i64> {
-    let newest = line.sets().first()?;
+    let newest = line.newest.sets().first()?;
     Some(i64::from(request.day) - newest.day)
+}
+
+/// A zero set is the newest set of a certificate and of 13 too, and what isn't zero is not looked at.
+fn count_newest(met: &mut Met, line: &Line, request: Request, answer: Result<Certificate, u8>) {
+    let age = |set: &PastSet| i64::from(request.day) - set.day;
+    let nonzero = line.nonzero.sets().first().map(age);
+    match answer {
+        Ok(_) => {
+            let zero = line.newest.sets()[0].is_zero();
+            met.branch_if(zero, "market: certified, the newest set is zero");
+            met.branch_if(nonzero.is_none(), "market: certified, no non-zero set");
+            met.branch_if(
+                nonzero > Some(7),
+                "market: certified, the newest non-zero set more than 7 days old",
+            );
+        }
+        Err(13) => met.branch_if(
+            nonzero.is_some_and(|age| age <= 7),
+            "market: 13, the newest non-zero set at most 7 days old",
+        ),
+        Err(_) => {}
+    }
 }
 
 /// The branches of a market test that asks for gluten.

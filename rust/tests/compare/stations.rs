@@ -270,25 +270,44 @@ impl Trial {
         }
     }
 
+    /// The station that the model judges a call by.
+    fn seen(&self, before: &StationPlaces) -> model::Station {
+        let station = encode::station(before);
+        match self.wrong {
+            Some(wrong) => wrong.seen(&self.rules, station),
+            None => station,
+        }
+    }
+
     /// The model's answer to a sheet, and the places after it; so of the calls below.
     fn sheet_by_model(
         &self,
-        before: &StationPlaces,
+        subject: &Subject,
         day: u32,
         line: u64,
         numbers: &[i32],
     ) -> (Result<Judged, u8>, StationPlaces) {
-        let mut station = encode::station(before);
-        let answer = station.sheet(&self.rules, day, line, numbers);
-        if let (Some(wrong), Ok(judged)) = (self.wrong, &answer) {
-            wrong.sheet(before, &mut station, line, judged.verdict);
+        let mut station = self.seen(&subject.places);
+        let before = station;
+        let mut answer = station.sheet(&self.rules, day, line, numbers);
+        if let (Some(wrong), Ok(judged)) = (self.wrong, &mut answer) {
+            let line = line as usize;
+            let past = subject.book.as_ref().map(|book| book.past(line));
+            wrong.sheet(
+                &self.rules,
+                &before,
+                past.as_deref(),
+                &mut station,
+                line,
+                judged,
+            );
         }
-        let after = Trial::after(before, &station, &answer);
+        let after = Trial::after(&subject.places, &station, &answer);
         (answer, after)
     }
 
     fn repair_by_model(&self, before: &StationPlaces, day: u32) -> (Result<(), u8>, StationPlaces) {
-        let mut station = encode::station(before);
+        let mut station = self.seen(before);
         let answer = station.repair(&self.rules, day);
         if let (Some(wrong), Ok(())) = (self.wrong, answer) {
             wrong.repair(before, &mut station);
@@ -301,13 +320,13 @@ impl Trial {
         before: &StationPlaces,
         request: Request,
     ) -> (Result<Certificate, u8>, StationPlaces) {
-        let mut station = encode::station(before);
+        let mut station = self.seen(before);
         let (scan, asked, basis) = (request.scan(), request.asked(), request.basis());
         let answer = station.market(&self.rules, request.day, request.line, scan, asked, basis);
-        let answer = answer.map_err(|number| match self.wrong {
-            Some(wrong) => wrong.number(before, request, number),
-            None => number,
-        });
+        let answer = match self.wrong {
+            Some(wrong) => wrong.market(before, request, answer),
+            None => answer,
+        };
         (answer, Trial::after(before, &station, &answer))
     }
 
@@ -319,7 +338,7 @@ impl Trial {
         numbers: &[i32],
     ) -> Result<Result<Judged, u8>, Difference> {
         let before = subject.places;
-        let (answer, after) = self.sheet_by_model(&before, day, line, numbers);
+        let (answer, after) = self.sheet_by_model(subject, day, line, numbers);
         let told = answer.map(|judged| judged.outcome);
         let what = || format!("sheet on day {day}, line {line}, {numbers:?} of {before:?}");
 

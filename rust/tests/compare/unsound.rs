@@ -1,7 +1,7 @@
 //! Stations and charts handed in that no call has handed back: one thing wrong, or any numbers.
 
 use grain_model::station::BLANK;
-use grain_model::{Chart, ChartSet, Line, LinePhase, PastSet, Station, chart};
+use grain_model::{Chart, ChartSet, Held, Line, LinePhase, PastSet, Station, chart};
 
 use crate::charts;
 use crate::encode::{self, ChartPlaces, StationPlaces};
@@ -55,8 +55,24 @@ const EDGES: [i32; 37] = [
 /// The phases that hold no set.
 const NOT_OPEN: [LinePhase; 3] = [LinePhase::New, LinePhase::Adjusted, LinePhase::Shut];
 
-/// A sound station whose row's lines are mostly open with two to four sets each.
+/// How the sets of a sound line came to be.
+#[derive(Clone, Copy)]
+enum Sets {
+    /// As sheets leave them.
+    OfSheets,
+    /// Of each kind by itself, so that the kinds mostly disagree.
+    Apart,
+    /// Four that aren't zero, valid and on one side of zero, and at most one newest set that is valid.
+    FourAlone,
+}
+
+/// A sound station whose row's lines are mostly open, with sets of both kinds.
 pub fn sound_station(rng: &mut Rng) -> Station {
+    let sets = rng.pick(&[Sets::OfSheets, Sets::OfSheets, Sets::Apart, Sets::FourAlone]);
+    station_with(rng, sets)
+}
+
+fn station_with(rng: &mut Rng, sets: Sets) -> Station {
     let row = rng.range(0, 1);
     let samples = if row == 0 { 6 } else { 4 };
     let mut station = Station::fresh(row);
@@ -73,114 +89,241 @@ pub fn sound_station(rng: &mut Rng) -> Station {
             continue;
         }
         line.phase = LinePhase::Open.code();
-        let mut day = (station.day - 60).max(0);
-        for _ in 0..rng.range(2, 4) {
-            day = match rng.chance(50) {
-                true => station.day - rng.pick(&[0, 0, 1, 7, 8, 14, 15]),
-                false => day,
-            }
-            .clamp(day, station.day);
-            let n = 2 * rng.range(1, samples);
-            let s = match rng.below(20) {
-                0 => rng.either_sign(11_000 * n),
-                _ => rng.range(-8 * n, 8 * n),
-            };
-            line.join(PastSet { day, s, n });
+        match sets {
+            Sets::OfSheets => sets_of_sheets(rng, line, station.day, samples),
+            Sets::Apart => sets_apart(rng, line, station.day, samples),
+            Sets::FourAlone => four_alone(rng, line, station.day, samples),
         }
     }
     station
 }
 
-/// What may be wrong with a line, and with which name it is counted.
+/// A sound set of this day. Mostly its average is small, or 0 where that may be.
+fn a_set(rng: &mut Rng, day: i64, samples: i64, zero: bool) -> PastSet {
+    let n = 2 * rng.range(1, samples);
+    let s = match rng.below(20) {
+        0 => rng.either_sign(11_000 * n),
+        1..6 if zero => 0,
+        _ => rng.range(1, 8 * n),
+    };
+    PastSet { day, s, n }
+}
+
+/// Two to seven sheets that met, mostly on one side of zero.
+fn sets_of_sheets(rng: &mut Rng, line: &mut Line, last: i64, samples: i64) {
+    let mut day = (last - 60).max(0);
+    let side = rng.either_sign(1);
+    for _ in 0..rng.range(2, 7) {
+        day = match rng.chance(50) {
+            true => last - rng.pick(&[0, 0, 1, 7, 8, 14, 15]),
+            false => day,
+        }
+        .clamp(day, last);
+        let mut set = a_set(rng, day, samples, true);
+        set.s *= if rng.chance(80) { side } else { -side };
+        line.join(set);
+    }
+}
+
+/// Sets of the days of these ages, newest first; what `set` makes of each.
+fn sets<const MOST: usize>(
+    last: i64,
+    mut ages: Vec<i64>,
+    mut set: impl FnMut(i64) -> PastSet,
+) -> Held<MOST> {
+    let mut held = Held::NONE;
+    ages.sort_unstable();
+    for age in ages.iter().rev() {
+        held.join(set((last - age).max(0)));
+    }
+    held
+}
+
+fn ages(rng: &mut Rng, count: i64, of: &[i64]) -> Vec<i64> {
+    (0..count).map(|_| rng.pick(of)).collect()
+}
+
+/// One or two newest sets, none to four that aren't zero, and nothing that they have in common.
+fn sets_apart(rng: &mut Rng, line: &mut Line, last: i64, samples: i64) {
+    let of = [0, 0, 1, 7, 8, 14, 15, 40];
+    let (newest, nonzero) = (rng.range(1, 2), rng.range(0, 4));
+    let (newest, nonzero) = (ages(rng, newest, &of), ages(rng, nonzero, &of));
+    let sign = |rng: &mut Rng| if rng.chance(50) { -1 } else { 1 };
+    let mut any = |day, zero| {
+        let mut set = a_set(rng, day, samples, zero);
+        set.s *= sign(rng);
+        set
+    };
+    line.newest = sets(last, newest, |day| any(day, true));
+    line.nonzero = sets(last, nonzero, |day| any(day, false));
+}
+
+/// No newest set that is valid, or one, beside four valid ones that aren't zero.
+fn four_alone(rng: &mut Rng, line: &mut Line, last: i64, samples: i64) {
+    let newest = match rng.below(4) {
+        0 => ages(rng, 1, &[0, 1, 14]),
+        1 => ages(rng, 1, &[15, 40]),
+        2 => ages(rng, 2, &[15, 40]),
+        _ => [ages(rng, 1, &[0, 7, 14]), ages(rng, 1, &[15, 40])].concat(),
+    };
+    let nonzero = ages(rng, 4, &[0, 0, 1, 7, 8, 14]);
+    let side = rng.either_sign(1);
+    line.newest = sets(last, newest, |day| a_set(rng, day, samples, true));
+    line.nonzero = sets(last, nonzero, |day| {
+        let n = 2 * rng.range(1, samples);
+        let s = side * rng.range(n, 6 * n);
+        PastSet { day, s, n }
+    });
+}
+
+/// What may be wrong with a state, and with which name it is counted.
 type Wrong<T> = (&'static str, fn(&mut Rng, &mut T));
 
-const WRONG_LINES: &[Wrong<(Line, i64, i64)>] = &[
-    ("station: intercept out of bounds", |rng, (line, ..)| {
+const WRONG_LINES: &[Wrong<Line>] = &[
+    ("station: intercept out of bounds", |rng, line| {
         line.intercept = rng.pick(&[-1001, 1001, i32::MIN.into(), i32::MAX.into()]);
     }),
-    ("station: phase 4, nothing held", |_, (line, ..)| {
+    ("station: phase 4, nothing held", |_, line| {
         line.phase = 4;
         line.empty();
     }),
-    (
-        "station: phase doesn't exist, nothing held",
-        |rng, (line, ..)| {
-            line.phase = no_phase(rng);
-            line.empty();
-        },
-    ),
-    (
-        "station: phase doesn't exist, sets held",
-        |rng, (line, ..)| {
-            let held = rng.range(1, 4);
-            *line = open_line(rng, held);
-            line.phase = no_phase(rng);
-        },
-    ),
-    ("station: held negative", |rng, (line, ..)| {
-        line.held = rng.pick(&[-1, -4, i32::MIN.into(), i64::from(i32::MIN) + 1]);
+    ("station: phase doesn't exist, nothing held", |rng, line| {
+        line.phase = no_phase(rng);
+        line.empty();
     }),
-    ("station: open without a set", |_, (line, ..)| {
-        line.phase = LinePhase::Open.code();
-        line.held = 0;
+    ("station: phase doesn't exist, sets held", |rng, line| {
+        *line = open_line(rng, 1, 1);
+        line.phase = no_phase(rng);
     }),
-    ("station: past set on a new line", |rng, (line, ..)| {
-        *line = with_sets(rng, LinePhase::New);
+    ("station: newest held negative", |rng, line| {
+        *line = open_line(rng, 2, 4);
+        line.newest.count = negative(rng);
+    }),
+    ("station: non-zero held negative", |rng, line| {
+        *line = open_line(rng, 2, 4);
+        line.nonzero.count = negative(rng);
+    }),
+    ("station: open without a set", |rng, line| {
+        *line = open_line(rng, 0, 0);
     }),
     (
-        "station: past set on an adjusted line",
-        |rng, (line, ..)| {
-            *line = with_sets(rng, LinePhase::Adjusted);
+        "station: open without a newest set, non-zero ones held",
+        |rng, line| {
+            let nonzero = rng.range(1, 4);
+            *line = open_line(rng, 0, nonzero);
         },
     ),
-    ("station: past set on a shut line", |rng, (line, ..)| {
-        *line = with_sets(rng, LinePhase::Shut);
+    ("station: newest set on a new line", |rng, line| {
+        *line = newest_on(rng, LinePhase::New);
     }),
-    ("station: more than four held", |rng, (line, ..)| {
-        *line = open_line(rng, 4);
-        line.held = rng.pick(&[5, 6, 1 << 16, 65_540, i32::MAX.into()]);
+    ("station: newest set on an adjusted line", |rng, line| {
+        *line = newest_on(rng, LinePhase::Adjusted);
     }),
-    ("station: set's day negative", |rng, (line, ..)| {
+    ("station: newest set on a shut line", |rng, line| {
+        *line = newest_on(rng, LinePhase::Shut);
+    }),
+    ("station: non-zero set on a new line", |rng, line| {
+        *line = nonzero_on(rng, LinePhase::New);
+    }),
+    ("station: non-zero set on an adjusted line", |rng, line| {
+        *line = nonzero_on(rng, LinePhase::Adjusted);
+    }),
+    ("station: non-zero set on a shut line", |rng, line| {
+        *line = nonzero_on(rng, LinePhase::Shut);
+    }),
+    ("station: three newest held", |rng, line| {
+        *line = open_line(rng, 2, 4);
+        line.newest.count = 3;
+    }),
+    ("station: more than three newest held", |rng, line| {
+        *line = open_line(rng, 2, 4);
+        line.newest.count = rng.pick(&[4, 1 << 16, 65_538, i32::MAX.into()]);
+    }),
+    ("station: five non-zero held", |rng, line| {
+        *line = open_line(rng, 2, 4);
+        line.nonzero.count = 5;
+    }),
+    ("station: more than five non-zero held", |rng, line| {
+        *line = open_line(rng, 2, 4);
+        line.nonzero.count = rng.pick(&[6, 1 << 16, 65_540, i32::MAX.into()]);
+    }),
+    ("station: a non-zero set with S 0", |rng, line| {
         let held = rng.range(1, 4);
-        *line = open_line(rng, held);
-        line.past[held as usize - 1].day = rng.pick(&[-1, i32::MIN.into()]);
-    }),
-    ("station: N negative", |rng, (line, ..)| {
-        let held = rng.range(1, 4);
-        *line = open_line(rng, held);
-        line.past[held as usize - 1].n = rng.pick(&[-1, -2, -12, i32::MIN.into()]);
-    }),
-    ("station: days rise", |rng, (line, day, _)| {
-        *line = open_line(rng, 2);
-        line.past[1].day = rng.range(0, 1).min(*day - 1) + 1;
-        line.past[0].day = line.past[1].day - 1;
-    }),
-    (
-        "station: set after the station's day",
-        |rng, (line, day, _)| {
-            *line = open_line(rng, 1);
-            line.past[0].day = rng.pick(&[*day + 1, i32::MAX.into()]);
-        },
-    ),
-    ("station: N odd", |rng, (line, _, samples)| {
-        let held = rng.range(1, 4);
-        *line = open_line(rng, held);
-        line.past[held as usize - 1].n = 2 * rng.range(1, *samples) - 1;
-    }),
-    ("station: N out of bounds", |rng, (line, _, samples)| {
-        let held = rng.range(1, 4);
-        *line = open_line(rng, held);
-        line.past[held as usize - 1].n =
-            rng.pick(&[0, 2 * *samples + 2, 1 << 30, i64::from(i32::MAX) - 1]);
-    }),
-    ("station: S out of bounds", |rng, (line, ..)| {
-        let held = rng.range(1, 4);
-        *line = open_line(rng, held);
-        let set = &mut line.past[held as usize - 1];
-        let beyond = rng.pick(&[11_000 * set.n + 1, i32::MAX.into()]);
-        set.s = rng.either_sign(beyond);
+        *line = open_line(rng, 2, held);
+        line.nonzero.places[rng.below(held as usize)].s = 0;
     }),
 ];
+
+/// What may be wrong with the sets of one kind, on a station of this day and row: by the name with which it
+/// is counted of the newest ones, and of those that aren't zero. Two or more are held.
+type WrongSets = (
+    [&'static str; 2],
+    fn(&mut Rng, sets: &mut [PastSet], day: i64, samples: i64),
+);
+
+const WRONG_SETS: &[WrongSets] = &[
+    (
+        [
+            "station: newest set's day negative",
+            "station: non-zero set's day negative",
+        ],
+        |rng, sets, _, _| sets[sets.len() - 1].day = rng.pick(&[-1, i32::MIN.into()]),
+    ),
+    (
+        ["station: newest days rise", "station: non-zero days rise"],
+        |rng, sets, _, _| sets[1 + rng.below(sets.len() - 1)].day = 1,
+    ),
+    (
+        [
+            "station: newest set after the station's day",
+            "station: non-zero set after the station's day",
+        ],
+        |rng, sets, day, _| sets[0].day = rng.pick(&[day + 1, i32::MAX.into()]),
+    ),
+    (
+        [
+            "station: newest set's N negative",
+            "station: non-zero set's N negative",
+        ],
+        |rng, sets, _, _| one_of(rng, sets).n = rng.pick(&[-1, -2, -12, i32::MIN.into()]),
+    ),
+    (
+        [
+            "station: newest set's N odd",
+            "station: non-zero set's N odd",
+        ],
+        |rng, sets, _, samples| one_of(rng, sets).n = 2 * rng.range(1, samples) - 1,
+    ),
+    (
+        [
+            "station: newest set's N out of bounds",
+            "station: non-zero set's N out of bounds",
+        ],
+        |rng, sets, _, samples| {
+            let beyond = [0, 2 * samples + 2, 1 << 30, i64::from(i32::MAX) - 1];
+            one_of(rng, sets).n = rng.pick(&beyond);
+        },
+    ),
+    (
+        [
+            "station: newest set's S out of bounds",
+            "station: non-zero set's S out of bounds",
+        ],
+        |rng, sets, _, _| {
+            let set = one_of(rng, sets);
+            let beyond = rng.pick(&[11_000 * set.n + 1, i32::MAX.into()]);
+            set.s = rng.either_sign(beyond);
+        },
+    ),
+];
+
+fn one_of<'a>(rng: &mut Rng, sets: &'a mut [PastSet]) -> &'a mut PastSet {
+    &mut sets[rng.below(sets.len())]
+}
+
+fn negative(rng: &mut Rng) -> i64 {
+    rng.pick(&[-1, -4, i32::MIN.into(), i64::from(i32::MIN) + 1])
+}
 
 /// A number that stands for no phase.
 fn no_phase(rng: &mut Rng) -> i64 {
@@ -190,26 +333,41 @@ fn no_phase(rng: &mut Rng) -> i64 {
     rng.pick(&codes)
 }
 
-/// A line of another phase that holds the sets of an open one.
-fn with_sets(rng: &mut Rng, phase: LinePhase) -> Line {
-    let held = rng.range(1, 4);
+/// A line of another phase that holds newest sets, or sets that aren't zero.
+fn newest_on(rng: &mut Rng, phase: LinePhase) -> Line {
+    let newest = rng.range(1, 2);
     Line {
         phase: phase.code(),
-        ..open_line(rng, held)
+        ..open_line(rng, newest, 0)
     }
 }
 
-/// A sound open line whose sets are of day 0.
-fn open_line(rng: &mut Rng, held: i64) -> Line {
+fn nonzero_on(rng: &mut Rng, phase: LinePhase) -> Line {
+    let nonzero = rng.range(1, 4);
+    Line {
+        phase: phase.code(),
+        ..open_line(rng, 0, nonzero)
+    }
+}
+
+/// An open line with so many sound sets of day 0.
+fn open_line(rng: &mut Rng, newest: i64, nonzero: i64) -> Line {
     let mut line = Line {
         intercept: rng.range(-1000, 1000),
         phase: LinePhase::Open.code(),
         ..Line::FRESH
     };
-    for _ in 0..held {
-        let n = 2 * rng.range(1, 4);
-        line.join(PastSet { day: 0, s: 0, n });
-    }
+    let (newest, nonzero) = (vec![0; newest as usize], vec![0; nonzero as usize]);
+    line.newest = sets(0, newest, |day| PastSet {
+        day,
+        s: 0,
+        n: 2 * rng.range(1, 4),
+    });
+    line.nonzero = sets(0, nonzero, |day| PastSet {
+        day,
+        s: rng.pick(&[-5, -1, 1, 5]),
+        n: 2 * rng.range(1, 4),
+    });
     line
 }
 
@@ -217,34 +375,10 @@ fn open_line(rng: &mut Rng, held: i64) -> Line {
 pub fn unsound_station(trial: &mut Trial) -> Result<(), Difference> {
     let rng = &mut trial.rng;
     let mut station = sound_station(rng);
-    let wrong = rng.below(WRONG_LINES.len() + 2);
-    let name = match WRONG_LINES.get(wrong) {
-        Some((name, damage)) => {
-            let (lines, samples) = if station.row == 0 { (1, 6) } else { (3, 4) };
-            let place = rng.below(lines);
-            station.day = station.day.max(1);
-            let mut line = (station.lines[place], station.day, samples);
-            damage(rng, &mut line);
-            station.lines[place] = line.0;
-            name
-        }
-        None => {
-            let negative = rng.pick(&[-1, i32::MIN.into()]);
-            let (row, day, name) = rng.pick(&[
-                (2, station.day, "station: row doesn't exist"),
-                (i32::MAX.into(), station.day, "station: row doesn't exist"),
-                (negative, station.day, "station: row negative"),
-                (station.row, 100_000, "station: day above 99999"),
-                (station.row, i32::MAX.into(), "station: day above 99999"),
-                (station.row, negative, "station: day negative"),
-            ]);
-            (station.row, station.day) = (row, day);
-            // No set may be the reason.
-            if day < 0 {
-                station.lines = [Line::FRESH; 3];
-            }
-            name
-        }
+    let name = match rng.below(10) {
+        0..5 => wrong_sets(rng, &mut station),
+        5..9 => wrong_line(rng, &mut station),
+        _ => wrong_station(rng, &mut station),
     };
     let places = encode::station_places(&station);
     let before = trial.met.refused(0);
@@ -253,9 +387,106 @@ pub fn unsound_station(trial: &mut Trial) -> Result<(), Difference> {
     Ok(())
 }
 
+/// A line of the station's row, to be damaged, and the samples of its sheets.
+fn row_line<'a>(rng: &mut Rng, station: &'a mut Station) -> (&'a mut Line, i64) {
+    let (lines, samples) = if station.row == 0 { (1, 6) } else { (3, 4) };
+    (&mut station.lines[rng.below(lines)], samples)
+}
+
+fn wrong_line(rng: &mut Rng, station: &mut Station) -> &'static str {
+    let (name, damage) = rng.pick(WRONG_LINES);
+    let (line, _) = row_line(rng, station);
+    damage(rng, line);
+    name
+}
+
+fn wrong_sets(rng: &mut Rng, station: &mut Station) -> &'static str {
+    let (names, damage) = rng.pick(WRONG_SETS);
+    station.day = station.day.max(1);
+    let day = station.day;
+    let (line, samples) = row_line(rng, station);
+    match rng.chance(50) {
+        true => {
+            let others = rng.range(0, 4);
+            *line = open_line(rng, 2, others);
+            damage(rng, &mut line.newest.places, day, samples);
+            names[0]
+        }
+        false => {
+            let (others, held) = (rng.range(1, 2), rng.range(2, 4));
+            *line = open_line(rng, others, held);
+            damage(rng, &mut line.nonzero.places[..held as usize], day, samples);
+            names[1]
+        }
+    }
+}
+
+fn wrong_station(rng: &mut Rng, station: &mut Station) -> &'static str {
+    let negative = rng.pick(&[-1, i32::MIN.into()]);
+    let (row, day, name) = rng.pick(&[
+        (2, station.day, "station: row doesn't exist"),
+        (i32::MAX.into(), station.day, "station: row doesn't exist"),
+        (negative, station.day, "station: row negative"),
+        (station.row, 100_000, "station: day above 99999"),
+        (station.row, i32::MAX.into(), "station: day above 99999"),
+        (station.row, negative, "station: day negative"),
+    ]);
+    (station.row, station.day) = (row, day);
+    // No set may be the reason.
+    if day < 0 {
+        station.lines = [Line::FRESH; 3];
+    }
+    name
+}
+
 /// A call on a station that isn't kept as a book.
 fn on_station(trial: &mut Trial, places: StationPlaces) -> Result<(), Difference> {
     lists::single(trial, &mut Subject::handed_in(places))
+}
+
+/// Whether a list of calls can leave this line: of the newest sets those that aren't zero are the first of
+/// the others, and what follows is no newer than both.
+fn kinds_agree(line: &Line) -> bool {
+    let newest = line.newest.sets();
+    let shared: Vec<PastSet> = newest
+        .iter()
+        .filter(|set| !set.is_zero())
+        .copied()
+        .collect();
+    let Some(older) = line.nonzero.sets().strip_prefix(&shared[..]) else {
+        return false;
+    };
+    let oldest = newest.last().map_or(0, |set| set.day);
+    older
+        .iter()
+        .all(|set| newest.len() == 2 && set.day <= oldest)
+}
+
+/// A sound station whose kinds of sets mostly disagree, and a few calls on it.
+pub fn kinds_apart(trial: &mut Trial) -> Result<(), Difference> {
+    let sets = trial.rng.pick(&[Sets::Apart, Sets::FourAlone]);
+    let station = station_with(&mut trial.rng, sets);
+    let mut subject = Subject::handed_in(encode::station_places(&station));
+    for _ in 0..6 {
+        let (before, counts) = (encode::station(&subject.places), accepted(trial));
+        lists::single(trial, &mut subject)?;
+        let rose = accepted(trial);
+        let lines = if before.row == 0 { 1 } else { 3 };
+        if before.lines[..lines].iter().all(kinds_agree) {
+            continue;
+        }
+        let [sheet, repair, market] = [0, 1, 2].map(|call| rose[call] > counts[call]);
+        let met = &mut trial.met;
+        met.branch_if(sheet, "station: kinds that disagree, sheet accepted");
+        met.branch_if(repair, "station: kinds that disagree, repair accepted");
+        met.branch_if(market, "station: kinds that disagree, market test accepted");
+    }
+    Ok(())
+}
+
+/// How many sheets, repairs and market tests were accepted.
+fn accepted(trial: &Trial) -> [u64; 3] {
+    ["sheet", "repair", "market"].map(|call| trial.met.accepted(call))
 }
 
 /// A sound station whose spare places hold anything, and a few calls on it.
@@ -264,18 +495,16 @@ pub fn spare_places(trial: &mut Trial) -> Result<(), Difference> {
     let mut station = sound_station(rng);
     let lines = if station.row == 0 { 1 } else { 3 };
     for (place, line) in station.lines.iter_mut().enumerate() {
-        let spare = place >= lines;
-        if spare {
+        if place >= lines {
             line.intercept = rng.pick(&EDGES).into();
             line.phase = rng.pick(&EDGES).into();
-            line.held = rng.pick(&EDGES).into();
+            line.newest.count = rng.pick(&EDGES).into();
+            line.nonzero.count = rng.pick(&EDGES).into();
         }
-        let held = if spare { 0 } else { line.held as usize };
-        for set in &mut line.past[held..] {
-            set.day = rng.pick(&EDGES).into();
-            set.s = rng.pick(&EDGES).into();
-            set.n = rng.pick(&EDGES).into();
-        }
+        let held = |count: i64| if place < lines { count as usize } else { 0 };
+        let (newest, nonzero) = (held(line.newest.count), held(line.nonzero.count));
+        hostile(rng, &mut line.newest.places[newest..]);
+        hostile(rng, &mut line.nonzero.places[nonzero..]);
     }
     let places = encode::station_places(&station);
     let mut subject = Subject::handed_in(places);
@@ -285,14 +514,21 @@ pub fn spare_places(trial: &mut Trial) -> Result<(), Difference> {
     Ok(())
 }
 
+/// Spare places that hold anything.
+fn hostile(rng: &mut Rng, sets: &mut [PastSet]) {
+    for set in sets {
+        set.day = rng.pick(&EDGES).into();
+        set.s = rng.pick(&EDGES).into();
+        set.n = rng.pick(&EDGES).into();
+    }
+}
+
 /// A call on a station whose spare places hold anything, and what came of them.
 fn beside_spare_places(
     trial: &mut Trial,
     subject: &mut Subject,
     lines: usize,
 ) -> Result<(), Difference> {
-    let accepted =
-        |trial: &Trial| ["sheet", "repair", "market"].map(|call| trial.met.accepted(call));
     let (before, counts) = (encode::station(&subject.places), accepted(trial));
     lists::single(trial, subject)?;
     let after = encode::station(&subject.places);
@@ -306,19 +542,48 @@ fn beside_spare_places(
         "station: hostile spare places, market test accepted",
     );
     for (place, (line, then)) in before.lines.iter().zip(&after.lines).enumerate() {
-        if place < lines {
-            let held = line.held as usize;
-            let moves_on = sheet
-                && (1..3).contains(&held)
-                && then.held == line.held + 1
-                && line.past[held] != BLANK
-                && then.past[held + 1] == line.past[held];
-            met.branch_if(moves_on, "station: a hostile spare set moves on");
-        } else if repair {
+        if place < lines && sheet {
+            count_spare_sets(met, line, then);
+        } else if place >= lines && repair {
             count_spare_line(met, line, then);
         }
     }
     Ok(())
+}
+
+/// The first spare place of a kind, where it isn't blank.
+fn spare<const MOST: usize>(held: &Held<MOST>) -> Option<PastSet> {
+    let first = held.places.get(held.count as usize)?;
+    (*first != BLANK).then_some(*first)
+}
+
+/// One more is held, and what stood in the first spare place stands in it still.
+fn moves_on<const MOST: usize>(held: &Held<MOST>, then: &Held<MOST>) -> bool {
+    let first = spare(held);
+    first.is_some() && then.count == held.count + 1 && first == spare(then)
+}
+
+/// A line whose spare places hold anything, before and after a sheet.
+fn count_spare_sets(met: &mut Met, line: &Line, then: &Line) {
+    met.branch_if(
+        moves_on(&line.newest, &then.newest),
+        "station: a hostile spare newest set moves on",
+    );
+    met.branch_if(
+        moves_on(&line.nonzero, &then.nonzero),
+        "station: a hostile spare non-zero set moves on",
+    );
+    let zero =
+        then.newest != line.newest && then.newest.sets().first().is_some_and(PastSet::is_zero);
+    let spare = spare(&line.nonzero).is_some();
+    met.branch_if(
+        zero && spare && then.nonzero == line.nonzero,
+        "station: a zero set leaves hostile spare non-zero sets",
+    );
+    met.branch_if(
+        zero && spare && then.nonzero == Held::NONE,
+        "station: hostile spare non-zero sets are blank after a check",
+    );
 }
 
 /// A line that the row lacks, before and after a repair.
@@ -343,20 +608,14 @@ pub fn one_place(trial: &mut Trial, place: usize) -> Result<(), Difference> {
         let station = sound_station(&mut trial.rng);
         let mut places = encode::station_places(&station);
         places[place] = edge;
-        let accepted = |trial: &Trial| {
-            ["sheet", "repair", "market"]
-                .map(|call| trial.met.accepted(call))
-                .iter()
-                .sum::<u64>()
-        };
         let before = (trial.met.refused(0), accepted(trial));
         on_station(trial, places)?;
         let refused = trial.met.refused(0) > before.0;
-        let accepted = accepted(trial) > before.1;
+        let accepted = accepted(trial) != before.1;
         let met = &mut trial.met;
         met.branch_if(refused, "station: one place overwritten, refused by 0");
         met.branch_if(accepted, "station: one place overwritten, accepted");
-        let spare = station.row == 0 && place >= 17;
+        let spare = station.row == 0 && place >= encode::LINES[1];
         met.branch_if(
             accepted && spare,
             "station: one spare place overwritten, accepted",

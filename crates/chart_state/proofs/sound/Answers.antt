@@ -5,9 +5,9 @@ use Rattle.std.proofs.lemmas.Iterator.Search.{all_from_yields_List}
 use Rattle.chart_rules.specs.Charts.{sound_set, sound, past_of}
 use Rattle.chart_state.proofs.sound.Goals as goal
 
-pub returns-then-chart-le-SETS : goal.returns-then-chart-le-SETS
+pub returns-then-chart-le-MOST_SETS : goal.returns-then-chart-le-MOST_SETS
 unfolding sound
-returns-then-chart-le-SETS c =
+returns-then-chart-le-MOST_SETS c =
     let chart = c.args.chart in
     let row = lt-ltb chart.row 4 (omega arith) in
     let week = le-leb chart.week 9999 (omega arith) in

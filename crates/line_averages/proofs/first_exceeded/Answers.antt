@@ -9,7 +9,7 @@ unfolding tests_by
 returns-then-phase-lt-ADJUSTED_LINE c =
     let s = c.args in (
       c.err.ensures.value ∙ c.meet_averages.ensures.0
-          ∙ early (λ (phase : LinePhase). first_exceeded (tests_by s.limits phase s.set s.valid.now)) refl s.phase c.if-phase-lt-ADJUSTED_LINE.true,
+          ∙ early (λ (phase : LinePhase). first_exceeded (tests_by s.limits phase s.set s.newest.now s.nonzero.now)) refl s.phase c.if-phase-lt-ADJUSTED_LINE.true,
       subst⁻¹ FoundFits c.err.ensures.value c.meet_averages.ensures.1,
     )
 
@@ -19,6 +19,6 @@ returns-else-phase-lt-ADJUSTED_LINE c =
     let s = c.args in
     let e = c.err-else-phase-lt-ADJUSTED_LINE.ensures.value in (
       e ∙ c.meet.ensures.0
-          ∙ late (λ (phase : LinePhase). first_exceeded (tests_by s.limits phase s.set s.valid.now)) refl s.phase c.if-phase-lt-ADJUSTED_LINE.false,
+          ∙ late (λ (phase : LinePhase). first_exceeded (tests_by s.limits phase s.set s.newest.now s.nonzero.now)) refl s.phase c.if-phase-lt-ADJUSTED_LINE.false,
       subst⁻¹ FoundFits e c.meet.ensures.1,
     )

@@ -15,4 +15,4 @@ returns c =
     let exists = sym c.row_exists.ensures ∙ c.if-not-row_exists.false in
     let two : c.args.row < 2 = ltb-true c.args.row 2 exists in
     let is : to_z w32 c.args.row ≡ pos c.args.row = to_z_pos w32 c.args.row (omega arith) in
-    (λ j. record { answer = Ok tt; places = set (replicate 47 (pos 0)) 0 (is j) }) ∙ open_some c.args.row exists
+    (λ j. record { answer = Ok tt; places = set (replicate 68 (pos 0)) 0 (is j) }) ∙ open_some c.args.row exists

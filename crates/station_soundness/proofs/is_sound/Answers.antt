@@ -5,6 +5,7 @@ use borrow.Author.Rules.{rules}
 use borrow.Author.Tests.{ne_eqb}
 use Rattle.std.proofs.lemmas.Iterator.{YieldsList-from_slice}
 use Rattle.std.proofs.lemmas.Iterator.Search.{all_from_yields_List}
+use Rattle.std.proofs.lemmas.List.{take-map}
 use Rattle.whole.specs.Lists.{all}
 use Rattle.station_rules.specs.Rows.{row_exists, samples, line_count}
 use Rattle.station_rules.specs.Soundness.{sound_line}
@@ -17,7 +18,7 @@ pub returns-then-state-ne-STATION_PLACES : goal.returns-then-state-ne-STATION_PL
 unfolding station_in row_in
 returns-then-state-ne-STATION_PLACES c =
     let w = c.args.state.now in
-    rowless (station_in w) (simp (ne_eqb (length w) 47 c.if-state-ne-STATION_PLACES.true))
+    rowless (station_in w) (simp (ne_eqb (length w) 68 c.if-state-ne-STATION_PLACES.true))
 
 pub returns-then-not-row_exists : goal.returns-then-not-row_exists
 returns-then-not-row_exists c = rowless (station_in c.args.state.now) (sym (c.if-not-row_exists.ensures ∙ ap row_exists c.row_of-row.ensures))
@@ -47,6 +48,7 @@ returns c =
     all_from_yields_List (λ part. sound_line n.result c.day_of-day.result (line_in part)) _ _ c.all.result c.all.ensures.ran (YieldsList-from_slice (take c.line_count.result cut) c.iter.ensures.rest) (λ x b q k. search rules) in
     let lines = lines_cut w cut c.if-state-ne-STATION_PLACES.false c.as_chunks.ensures.front in
     tested
-    ∙ all_map (sound_line n.result c.day_of-day.result) line_in c.line_count.result cut
+    ∙ all_map (sound_line n.result c.day_of-day.result) line_in (take c.line_count.result cut)
+    ∙ ap (all (sound_line n.result c.day_of-day.result)) (sym (take-map line_in c.line_count.result cut))
     ∙ (λ i. all (sound_line ((n.ensures ∙ ap samples row) i) (day i)) (take ((c.line_count.ensures ∙ ap line_count row) i) (lines i)))
     ∙ by_lines (station_in w) (sym (c.if-not-row_exists.ensures ∙ ap row_exists row)) (omega arith)

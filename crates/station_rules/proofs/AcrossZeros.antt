@@ -1,0 +1,22 @@
+-- Each case of zero sets comes out as it says, by computation.
+use mathlib.Core.Path.{◌≡◌, refl}
+use mathlib.Core.List.{map}
+use lib.Ieee.{of_bits}
+use Rattle.reading.specs.Reading.{units_of, in_range, reading_of}
+use Rattle.whole.specs.Rounding.{rounded_away, nearest_tenth}
+use Rattle.station_rules.specs.Rows.{row_of, samples, standard_basis, line_count, limits_of}
+use Rattle.station_rules.specs.Readings.{scan_fits, line_float, scan_serves, asked_float}
+use Rattle.station_rules.specs.Sheets.{samples_of, wrong_number, spread, closer, closest_pair, third_due, used_pair, first_deviation, again_round, final_deviation, kept_samples, set_of, sheet_checks}
+use Rattle.station_rules.specs.Lines.{valid_on, same_side, newest_tests, five_test, tests_by, verdict_of, met_every}
+use Rattle.station_rules.specs.Markets.{basis_from, asked_intercept, other_class, other_basis, corrected_value, too_high, tenths, tenths_at, market_checks, certificate_of}
+use Rattle.station_rules.specs.Judging.{sheet_numbers, market_numbers, sheet_set, sheet_verdict}
+use Rattle.station_rules.specs.Soundness.{sound_line, sound}
+use Rattle.station_rules.specs.Stations.{sheet_station, outcome_of, sheet_of, repair_of, market_of}
+use Rattle.station_rules.specs.Calls.{station_after, station_reply}
+use Rattle.station_rules.specs.Books.{book_intercept, book_phase, book_past, book_values, book_number, entry_of, accepted, granted_reply, book_reply, book_after}
+use Rattle.station_rules.specs.Cases.{Case}
+use Rattle.station_rules.specs.AcrossZeros.{zero_cases}
+
+pub zero_cases_hold : map (λ (c : Case). c.gives) zero_cases ≡ map (λ (c : Case). c.says) zero_cases
+unfolding zero_cases of_bits units_of in_range reading_of row_of samples standard_basis line_count limits_of scan_fits line_float scan_serves asked_float samples_of wrong_number spread closer closest_pair third_due used_pair first_deviation again_round final_deviation kept_samples set_of sheet_checks valid_on same_side newest_tests five_test tests_by rounded_away verdict_of basis_from asked_intercept other_class other_basis corrected_value too_high tenths tenths_at nearest_tenth market_checks certificate_of sheet_numbers market_numbers sheet_set sheet_verdict sound_line sound sheet_station outcome_of sheet_of repair_of market_of station_after station_reply book_intercept book_phase book_past book_values book_number entry_of accepted granted_reply book_reply book_after met_every
+zero_cases_hold = refl
