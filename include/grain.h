@@ -40,12 +40,13 @@
  *
  * Stations of layouts 1 to 3 are shorter: 47 int32_t, not 68. Row, day, and of each line intercept and phase are as they
  * were; then a line had `held`, 0 to 4, and four past sets, newest first. Of the held ones the first two are `newest` now,
- * and those whose sum isn't 0 are `nonzero`; what is not in use is 0. That is all, unless four are held, at least one of
- * them with sum 0, and the oldest of the four is not more than 14 days older than the station's day: then sets before these
- * four may still count for the test of five, and layout 3 did not keep them. Write behind the others, as far as there is
- * room, the line's newest sets before these four whose sum isn't 0, from the laboratory's sheets since the last repair and
- * the last sheet that didn't meet. Without them a test of five may be left out that is due. Carry over only what the
- * version before takes: a station that it refuses by 0 is damaged.
+ * and those whose sum isn't 0 are `nonzero`; `newest_held` and `nonzero_held` say how many stand there, and what is not in
+ * use is 0. That is all, unless four are held, at least one of them with sum 0, and the oldest of the four is not more than
+ * 14 days older than the station's day: then sets before these four may still count for the test of five, and layout 3 did
+ * not keep them. Write behind the others, as far as there is room, the line's newest sets before these four whose sum isn't
+ * 0, from the laboratory's sheets since the last repair and that line's last sheet that didn't meet, and count them in
+ * `nonzero_held`. Without them a test of five may be left out that is due. Carry over only what the version before takes: a
+ * station that it refuses by 0 is damaged.
  *
  * Stations of layout 1, besides: 0 and 1 mean of a phase what they did. 2 stood for every line whose check is due and now
  * stands for an adjusted one: where the line was shut, that is where its newest accepted sheet gave change 0, write
@@ -113,7 +114,8 @@ struct grain_past_set {
     int32_t count; /* N: twice the number of samples kept (two results each) */
 };
 
-/* One constituent of the grain. Number 0 asks each kind of its sets by itself and does not compare the two. */
+/* One constituent of the grain. Number 0 asks each kind of its sets by itself and does not compare the two; it refuses a
+ * sum of 0 among those of nonzero. */
 struct grain_line {
     int32_t intercept;                /* added to every reading, hundredths, -1000 to 1000 */
     int32_t phase;                    /* GRAIN_NEW, GRAIN_OPEN, GRAIN_ADJUSTED or GRAIN_SHUT */

@@ -304,9 +304,9 @@ impl Station {
     ///
     /// A line leaves something open if it holds four, at least one of them zero, and the oldest is at most
     /// 14 days old on the station's day: then sets before the four may still count for the test of five.
-    /// `older` are these sets of each line, from the laboratory's sheets since the last repair and the last
-    /// sheet that didn't meet: newest first and without a gap. Those with S = 0 are passed over, and no more
-    /// are taken than there is room for. What is taken has to fit before the four
+    /// `older` are these sets of each line, from the laboratory's sheets since the last repair and that
+    /// line's last sheet that didn't meet: newest first and without a gap. Those with S = 0 are passed over,
+    /// and no more are taken than there is room for. What is taken has to fit before the four
     /// ([`RestoreError::WrongOlderSets`]). For a line that leaves nothing open they are not looked at.
     ///
     /// Where they aren't known, an empty list will do. Then a test of five may be left out that is due, as long

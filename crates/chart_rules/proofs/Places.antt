@@ -6,8 +6,7 @@ use Prim.Native.Nat.{ℕ}
 use lib.IntN.{ℤ, pos}
 use lib.ListN.{length}
 use lib.Dec.{eqb}
-use borrow.Author.Tests.{eqb-true, eq-eqb}
-use Rattle.whole.specs.Places.{place, natural}
+use borrow.Author.Tests.{eqb-true}
 use Rattle.whole.proofs.Spelled.{elements, spelled}
 use Rattle.chart_rules.specs.Charts.{fresh_chart, next_chart}
 use Rattle.chart_rules.specs.Places.{chart_set_at, chart_in, chart_at, fresh_places, next_places}
@@ -22,10 +21,6 @@ fifteen words = go (eqb (length words) 15) refl
     go : (b : Bool) → eqb (length words) 15 ≡ b → row_exists (cond b (chart_in words) (fresh_chart 4294967295)).row ≡ true → length words ≡ 15
     go true e h = eqb-true (length words) 15 e
     go false e h = absurd cc
-
-pub held_place : (words : List ℤ) → length words ≡ 15 → natural (place words 2) ≡ (chart_at words).held
-unfolding chart_at chart_in
-held_place words full = rw (eq-eqb (length words) 15 full)
 
 fresh_back : (row : ℕ) → chart_at (fresh_places row) ≡ fresh_chart row
 unfolding chart_set_at chart_in chart_at fresh_places

@@ -3,7 +3,6 @@
 #![tactic(auto)]
 
 ghost use Rattle.std.specs.Prelude.{◌≡◌, ◌+◌, ◌<◌, ◌≤◌, length};
-ghost use Rattle.whole.specs.Places.{place, natural};
 ghost use Rattle.chart_rules.specs.Charts.{sound as sound_of, fresh_chart};
 ghost use Rattle.chart_rules.specs.Places.{chart_set_at, chart_at, fresh_places, next_places};
 
@@ -99,7 +98,7 @@ pub fn put_fresh(state: &mut [i32; CHART_PLACES], row: u32)
 
 // The chart after a set: one more is held, and the other sets' places move on as they are. What is written fits an i32.
 pub fn put_next(state: &mut [i32], week: u32, s: ChartSet)
-    requires state_len { (length state.old ≡ 15) × (natural (place state.old 2) ≤ 4) }
+    requires state_len { length state.old ≡ 15 }
     requires fits { (week < 2147483648) × ((s.count < 2147483648) × (s.range < 2147483648)) }
     ensures { state.new ≡ next_places state.old week s }
 {

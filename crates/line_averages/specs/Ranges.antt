@@ -19,7 +19,7 @@ abbrev pub FoundFits : Option Test → Type 0
 FoundFits (Some t) = TestFits t
 FoundFits None = Unit {0}
 
--- what the tests due of a set are made with: its S and N, and the valid past sets
+-- what the tests due of a set are made with: its S and N, and the valid sets of one kind
 pub record Due (set : Set) (valid : List PastSet) : Type 0 where
   pub one : Together 1 set
   pub few : length valid ≤ 4

@@ -4,7 +4,6 @@
 #![tactic(auto)]
 
 ghost use Rattle.std.specs.Prelude.{◌≡◌, ◌&&◌, ◌≤◌, leb, map, take};
-ghost use Rattle.whole.specs.Lists.{all};
 ghost use Rattle.station_rules.specs.Judging.{day_check};
 ghost use Rattle.station_rules.specs.Soundness.{sound_set, sound_sets, sound_nonzero, sound_held, sound_line, sound};
 ghost use Rattle.station_rules.specs.Places.{set_at, line_in, station_in};

@@ -33,7 +33,7 @@ write_values-end-requires c =
     (omega (arith, r.place), rw c.values_of-values.ensures (values_small _ _ _ r.time (rw c.set_of-s.ensures r.made)))
 
 pub put_next-requires-clause-state_len : goal.put_next-requires-clause-state_len
-put_next-requires-clause-state_len c = let r = ready c.chart_at-chart.ensures c.in_ok-judge_call.ensures in (r.full, r.held)
+put_next-requires-clause-state_len c = (ready c.chart_at-chart.ensures c.in_ok-judge_call.ensures).full
 
 pub put_next-requires-clause-fits : goal.put_next-requires-clause-fits
 put_next-requires-clause-fits c =

@@ -19,5 +19,5 @@ returns c =
     let plot : rd s.plot ≡ s.plot = omega (arith, ints) in
     let range : rd c.cast_signed-2.result ≡ pos s.range = omega (arith, ints) in
     ap (put_mid 2 13 (set words 1 (rd c.cast_signed-3.result))) c.join.ensures
-    ∙ joined words _ _ _ _ c.requires.state_len.0
+    ∙ joined words _ _ _ _ c.requires.state_len
     ∙ (λ i. place words 0 ∷ week i ∷ pos (min 4 (held i)) ∷ count i ∷ plot i ∷ range i ∷ take 9 (drop 3 words))
