@@ -439,7 +439,22 @@ GRAIN_NODISCARD struct grain_value grain_reading(float percent);
 /* Makes *station a fresh station of a product row, whatever stood there. Refused by 1: then it is one of row 0. */
 GRAIN_NODISCARD struct grain_answer grain_open(struct grain_station *station, uint64_t row);
 
-/* Enters a reference sheet for a line; changes the station's day and that line. Refused by 0, 2 to 7. */
+/* Enters a reference sheet for a line; changes the station's day and that line. Refused by 0, 2 to 7.
+ *
+ * An average is a sum over a count, of one sheet or of several together; it exceeds a limit beyond it on either side. On a
+ * new or open line the sheet is tested alone, then with the newest set of `newest`, then with both, as far as these are at
+ * most 14 days old; then with the four sets of `nonzero`, if all four are at most 14 days old and all five sums lie on one
+ * side of 0. A sheet whose sum is 0 is so tested for no five, and sets whose sum is 0 are passed over by it. On an adjusted
+ * or shut line there is one test, the check. The first average that exceeds its limit, rounded to a whole hundredth with
+ * halves away from zero, is subtracted from the intercept, and the line is adjusted, or shut where the intercept would
+ * leave -1000 to 1000. A sheet that keeps no sample shuts its line. Both kinds of sets are emptied by each of these.
+ *
+ *     limits of averages, hundredths    one  two  three  five  check
+ *     wheat protein                      10    7      5     3      5
+ *     corn protein                       15   10      7     5      7
+ *     corn oil                           15   10      7     6      7
+ *     corn starch                        35   25     20    15     20
+ */
 GRAIN_NODISCARD struct grain_outcome grain_sheet(struct grain_station *GRAIN_RESTRICT station, uint32_t day, uint64_t line,
                                                  const int32_t *GRAIN_RESTRICT numbers, size_t numbers_len);
 

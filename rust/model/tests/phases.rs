@@ -1,11 +1,13 @@
 //! What a line that isn't open answers to a market test: new (12), adjusted (25) or shut (26). Every
 //! call is told to a station and to a book, which must answer the same.
 
+mod random;
 mod sheets;
 
 use grain_model::{
     Asked, Basis, Book, Certificate, LinePhase, Phase, Rules, Scan, Station, WheatClass,
 };
+use random::draw;
 use sheets::{again, wheat_sheet};
 
 /// A call that a line's phase rests on, on a wheat station.
@@ -230,14 +232,6 @@ fn lines_of_corn() {
     assert_eq!(numbers(&mut told), [None, Some(25), Some(26)]);
     told.call(5, Repair);
     assert_eq!(numbers(&mut told), [Some(12), Some(25), Some(26)]);
-}
-
-/// The next of a row of random numbers (a linear congruence), below `end`.
-fn draw(random: &mut u64, end: usize) -> usize {
-    *random = random
-        .wrapping_mul(6_364_136_223_846_793_005)
-        .wrapping_add(1_442_695_040_888_963_407);
-    (*random >> 33) as usize % end
 }
 
 /// Any list of calls is answered alike by a station and by its book, and meets each number.

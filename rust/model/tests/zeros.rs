@@ -1,11 +1,13 @@
 //! Zero sets are passed over: the averages of two and three look at the newest sets, the five at those
 //! that aren't zero. Every call is told to a station and to a book, which must answer the same.
 
+mod random;
 mod sheets;
 
 use grain_model::{
     Asked, Basis, Book, Certificate, LinePhase, PastSet, Rules, Scan, Station, Test, Verdict,
 };
+use random::draw;
 use sheets::{again, wheat_sheet};
 
 /// A wheat station and its book.
@@ -241,14 +243,6 @@ fn a_zero_set_is_the_newest() {
     assert_eq!(told.market(14), Err(13));
     let mut zeros = Told::after(&[(0, 0), (6, 0)]);
     assert_eq!(zeros.market(13).unwrap().set_day, 6);
-}
-
-/// The next of a row of random numbers (a linear congruence), below `end`.
-fn draw(random: &mut u64, end: usize) -> usize {
-    *random = random
-        .wrapping_mul(6_364_136_223_846_793_005)
-        .wrapping_add(1_442_695_040_888_963_407);
-    (*random >> 33) as usize % end
 }
 
 /// Any list of calls is answered alike by a station, which holds two sets and four, and by its book,
