@@ -49,7 +49,7 @@ range_finite nan h = absurd h
 range_finite (inf s) h = absurd h
 range_finite (fin s m e) h = tt
 
-range_sign : (s : Bool) (m : ℕ) (e : ℤ) → T (in_range (fin s m e)) → s ≡ true → m ≡ 0
+pub range_sign : (s : Bool) (m : ℕ) (e : ℤ) → T (in_range (fin s m e)) → s ≡ true → m ≡ 0
 unfolding in_range
 range_sign true m e h r = eqb→eq m 0 (and_l (eqb m 0) (leb (m * up e) (100 * down e)) h)
 range_sign false m e h r = absurd (true≢false (sym r))

@@ -3,21 +3,22 @@ use Rattle.std.specs.Prelude.{Some, None}
 use mathlib.Core.Path.{◌≡◌, refl, sym, ap, ◌∙◌, subst}
 use mathlib.Core.Bool.{Bool, true, false, not, ◌&&◌, true≢false}
 use Prim.Native.Nat.{ℕ, zero, suc, ◌+◌, ◌-◌, ◌*◌, ◌/◌, ◌%◌, ◌^◌, ◌≤◌, ◌<◌}
-use native.Mathlib.Nat.{lt_of_le_of_lt, lt_of_lt_of_le, lt_of_not-le, lt_irrefl, le_trans, le_of_eq, le-add_right, mul-le-mul_right, mul-pos, zero-mul, eq-zero-or-pos, add_comm}
+use native.Mathlib.Nat.{lt_of_le_of_lt, lt_of_lt_of_le, lt_of_not-le, le_of_lt, lt_irrefl, le_trans, le_of_eq, le-add_right, mul-le-mul_right, mul-pos, zero-mul, eq-zero-or-pos, add_comm}
 use mathlib.Core.Logic.{inl, inr}
 use native.Mathlib.Omega.{arith}
 use lib.IntN.{pos}
 use lib.Dec.{T, leb, lit<}
-use lib.Pow.{pow-add, pow_mono, field}
+use lib.Pow.{pow-add, pow_pos, pow_mono, field}
 use lib.Bits.{bit_and, and_mask, mask_lt}
 use lib.Ieee.{Float, nan, inf, fin, binary32, up, down, fits, is_nan, of_bits, to_bits, lt, ne}
-use lib.Ieee.Fits.{up_pos}
-use lib.Ieee.Bits.{is_true}
+use lib.Ieee.Fits.{up_pos, down_pos}
+use lib.Ieee.Bits.{is_true, to_bits-lt}
+use lib.Ieee.Exact.{HasValue}
 use lib.Ieee.Compare.{differs_from_itself}
 use borrow.Author.Tests.{ltb-true, ltb-false, le-leb, lt-leb, eq-eqb, ne_eqb}
 use Rattle.reading.specs.Reading.{unit, units_of, in_range, rounded_of, reading_of, answer_of}
-use Rattle.reading.proofs.Units.{field_units, units_by_fields}
-use Rattle.reading.proofs.Laws.{answer_in, answer_out, range_finite, range_units}
+use Rattle.reading.proofs.Units.{field_units, sized, units_by_fields}
+use Rattle.reading.proofs.Laws.{answer_in, answer_out, range_finite, range_sign, range_units}
 use Rattle.reading.proofs.Shift.{scaled}
 
 -- ---- the comparisons. 0.0 and 100.0 are as MIR has them, by their bit patterns
@@ -84,6 +85,35 @@ refused_below x h = sym (answer_out x (below_out x (subst (λ (k : Float). lt x 
 
 pub refused_above : (x : Float) → lt (of_bits binary32 0x42c8_0000) x ≡ true → None ≡ answer_of x
 refused_above x h = sym (answer_out x (above_out x (subst (λ (k : Float). lt k x ≡ true) hundred_is h)))
+
+-- a size is 0 only where the exponent field and the fraction are
+field_zero : (k t : ℕ) → field_units k t ≡ 0 → (k ≡ 0) × (t ≡ 0)
+unfolding field_units
+field_zero zero t z = (refl, z)
+field_zero (suc j) t z = let none : 2 ^ 23 + t ≡ 0 = first_zero (2 ^ 23 + t) (2 ^ j) (pow_pos j) z in absurd (lt_irrefl 0 (omega (arith, none)))
+
+-- in range with its sign set a float is minus zero, of size 0
+sign_alone : (x : Float) (s : Bool) (a : ℕ) → HasValue x s a unit → T (in_range x) → s ≡ true → a ≡ 0
+sign_alone nan s a h r e = absurd h
+sign_alone (inf t) s a h r e = absurd h
+sign_alone (fin t m k) s a h r e =
+    let z : m ≡ 0 = range_sign t m k r (h.0 ∙ e) in
+    first_zero a (down k) (down_pos k) (sym h.1 ∙ times_zero (m * up k) unit (times_zero m (up k) z))
+
+-- so bits above those of minus zero are out of range
+bits_out : (x : Float) → T (fits binary32 x) → 2 ^ 31 < to_bits binary32 x → (v : Bool) → in_range x ≡ v → v ≡ false
+bits_out x F h false e = refl
+bits_out x F h true e =
+    let b = to_bits binary32 x in
+    let r : T (in_range x) = subst T (sym e) tt in
+    let z = field_zero (b % 2 ^ 31 / 2 ^ 23) (b % 2 ^ 23) (sign_alone x (leb (2 ^ 31) b) (field_units (b % 2 ^ 31 / 2 ^ 23) (b % 2 ^ 23)) (sized x F (range_finite x r)) r (le-leb (2 ^ 31) b (le_of_lt h))) in
+    absurd (none b (to_bits-lt binary32 x F) h z.0 z.1)
+  where
+    none : (b : ℕ) → b < 2 ^ 32 → 2 ^ 31 < b → b % 2 ^ 31 / 2 ^ 23 ≡ 0 → b % 2 ^ 23 ≡ 0 → ⊥
+    none b l h y z = omega arith
+
+pub refused_bits : (x : Float) → T (fits binary32 x) → 2 ^ 31 < to_bits binary32 x → None ≡ answer_of x
+refused_bits x F h = sym (answer_out x (bits_out x F h (in_range x) refl))
 
 pub in_range_lem : (x : Float) → ne x x ≡ false → lt x (of_bits binary32 0) ≡ false → lt (of_bits binary32 0x42c8_0000) x ≡ false → T (in_range x)
 in_range_lem x a b c = subst T (sym (passed x a (subst (λ (k : Float). lt x k ≡ false) nought_is b) (subst (λ (k : Float). lt k x ≡ false) hundred_is c))) tt

@@ -52,7 +52,7 @@ sized_of b p =
     subst (λ (k : Float). Sized k b) (sym (bits_are b))
     (fields_value (leb (2 ^ 31) b) (b % 2 ^ 31 / 2 ^ 23) (b % 2 ^ 23) (subst (λ (k : Float). T (finite k)) (bits_are b) p))
 
-sized : (x : Float) → T (fits binary32 x) → T (finite x) → Sized x (to_bits binary32 x)
+pub sized : (x : Float) → T (fits binary32 x) → T (finite x) → Sized x (to_bits binary32 x)
 sized x F p =
     let b = to_bits binary32 x in
     subst (λ (k : Float). Sized k b) (of_bits-to_bits binary32 x F) (sized_of b (subst (λ (k : Float). T (finite k)) (sym (of_bits-to_bits binary32 x F)) p))

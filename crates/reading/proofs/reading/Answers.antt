@@ -5,7 +5,7 @@ use lib.Dec.{T}
 use lib.Ieee.{binary32, fits, to_bits}
 use lib.Ieee.Bits.{to_bits-lt}
 use Rattle.reading.specs.Reading.{in_range}
-use Rattle.reading.proofs.Pattern.{refused_nan, refused_below, refused_above, in_range_lem, no_nan, fraction_lt, exponent_le, normal, subnormal, answer}
+use Rattle.reading.proofs.Pattern.{refused_nan, refused_below, refused_above, refused_bits, in_range_lem, no_nan, fraction_lt, exponent_le, normal, subnormal, answer}
 use Rattle.reading.proofs.reading.Goals as goal
 
 pub returns-then-x : goal.returns-then-x
@@ -22,6 +22,11 @@ pub float_to_bits-bits : goal.float_to_bits-bits
 float_to_bits-bits c =
     let held : T (fits binary32 c.args.x) = subst T (sym c.well_formed.0.1) tt in
     no_nan c.args.x held (in_range_lem c.args.x c.if-x.false c.if-x-2.false c.if-x-3.false)
+
+pub returns-then-bits-gt-MINUS_ZERO : goal.returns-then-bits-gt-MINUS_ZERO
+returns-then-bits-gt-MINUS_ZERO c =
+    let held : T (fits binary32 c.args.x) = subst T (sym c.well_formed.0.1) tt in
+    refused_bits c.args.x held c.if-bits-gt-MINUS_ZERO.true
 
 pub overflow_cast-bits : goal.overflow_cast-bits
 overflow_cast-bits c =
