@@ -1,6 +1,6 @@
 // The exported functions of charts. Places, week and numbers, and text and buffer, are parameters of their own, and a row is a number: so the C interface takes them.
 ghost use Rattle.std.specs.Prelude.{◌≡◌};
-ghost use Rattle.abi_chart.specs.ChartAnswers.{chart_open_call, chart_set_call, chart_text_call};
+ghost use Rattle.abi_chart.specs.ChartAnswers.{chart_open_call, chart_set_call, chart_text_call, chart_check_call};
 
 use abi_answers::GrainAnswer;
 use abi_chart::{GrainCharted, GrainWritten};
@@ -31,4 +31,12 @@ pub extern "C" fn grain_chart_text(text: &[u8], out: &mut [u8]) -> GrainWritten
     ensures { record { given = result; out = out.new } ≡ chart_text_call text.now out.old }
 {
     abi_chart::written(text::chart_text(text, out))
+}
+
+#[unsafe(no_mangle)]
+#[tactic(auto, unfolding(abi_chart::specs::ChartAnswers::chart_check_call))]
+pub extern "C" fn grain_chart_check(state: &[i32; CHART_PLACES]) -> GrainAnswer
+    ensures { result ≡ chart_check_call state.now }
+{
+    GrainAnswer::from(chart::check(state).map_err(u32::from))
 }

@@ -1,7 +1,7 @@
 // The exported functions of readings and stations. Places, day, line and numbers are parameters of their own, and rows and kinds are numbers: so the C interface takes them.
 ghost use Rattle.std.specs.Prelude.{◌≡◌};
 ghost use Rattle.reading.specs.Reading.{answer_of};
-ghost use Rattle.abi_station.specs.StationAnswers.{scan_of, asked_of, basis_for, reading_given, open_call, sheet_call, repair_call, market_call};
+ghost use Rattle.abi_station.specs.StationAnswers.{scan_of, asked_of, basis_for, reading_given, open_call, sheet_call, repair_call, market_call, station_check_call};
 
 use abi_answers::GrainAnswer;
 use abi_station::{GrainCertificate, GrainOutcome, GrainValue};
@@ -63,4 +63,12 @@ pub extern "C" fn grain_market(
     let wanted = abi_station::asked_of(asked);
     let at = abi_station::basis_for(basis_kind, basis);
     GrainCertificate::from(market::market(state, day, line, scan, wanted, at))
+}
+
+#[unsafe(no_mangle)]
+#[tactic(auto, unfolding(abi_station::specs::StationAnswers::station_check_call))]
+pub extern "C" fn grain_station_check(state: &[i32; STATION_PLACES]) -> GrainAnswer
+    ensures { result ≡ station_check_call state.now }
+{
+    GrainAnswer::from(station::check(state).map_err(u32::from))
 }

@@ -3,7 +3,9 @@ use Rattle.std.specs.Prelude.{ℕ, Bool, cond, List, ℤ, pos, Result, Ok, Err}
 use Rattle.abi_answers.specs.Given.{accepted, refused}
 use Rattle.abi_answers.specs.declared.GrainAnswer.{GrainAnswer}
 use Rattle.chart_rules.specs.Refusals.{number_of}
+use Rattle.chart_rules.specs.Calls.{check_of}
 use Rattle.chart_rules.specs.InPlace.{open_in, chart_set_in}
+use Rattle.chart_rules.specs.Places.{chart_at}
 use Rattle.chart_rules.specs.declared.Refusal.{Refusal}
 use Rattle.chart_rules.specs.declared.Charted.{Charted}
 use Rattle.chart_rules.specs.Judging.{text_number}
@@ -23,6 +25,14 @@ pub record OpenLeft : Type 0 where
 
 unfoldable pub chart_open_call : ℕ → OpenLeft
 chart_open_call row = record { given = open_given (open_in row).answer; places = (open_in row).places }
+
+-- ---- a check
+abbrev pub check_given : Result (Unit {0}) Refusal → GrainAnswer
+check_given (Ok done) = accepted
+check_given (Err r) = refused (number_of r)
+
+unfoldable pub chart_check_call : List ℤ → GrainAnswer
+chart_check_call words = check_given (check_of (chart_at words))
 
 -- ---- one set
 

@@ -5,6 +5,8 @@ use Rattle.abi_answers.specs.Given.{accepted, refused}
 use Rattle.abi_answers.specs.declared.GrainAnswer.{GrainAnswer}
 use Rattle.station_rules.specs.Refusals.{number_of}
 use Rattle.station_rules.specs.InPlace.{Left, open_in, sheet_in, repair_in, market_in}
+use Rattle.station_rules.specs.Places.{station_in}
+use Rattle.station_rules.specs.Stations.{check_of}
 use Rattle.station_rules.specs.declared.Scan.{Scan}
 use Rattle.station_rules.specs.declared.WheatClass.{WheatClass}
 use Rattle.station_rules.specs.declared.Asked.{Asked}
@@ -48,7 +50,7 @@ unfoldable pub reading_given : Option ℕ → GrainValue
 reading_given (Some n) = record { accepted = 1; number = 0; hundredths = n }
 reading_given None = record { accepted = 0; number = number_of BadFloat; hundredths = 0 }
 
--- ---- an opening and a repair
+-- ---- an opening, a repair and a check
 
 abbrev pub open_given : Result Unit Refusal → GrainAnswer
 open_given (Ok tt) = accepted
@@ -63,6 +65,13 @@ repair_given (Err r) = refused (number_of r)
 
 unfoldable pub repair_call : List ℤ → ℕ → Left GrainAnswer
 repair_call words day = record { answer = repair_given (repair_in words day).answer; places = (repair_in words day).places }
+
+abbrev pub check_given : Result Unit Refusal → GrainAnswer
+check_given (Ok tt) = accepted
+check_given (Err r) = refused (number_of r)
+
+unfoldable pub station_check_call : List ℤ → GrainAnswer
+station_check_call words = check_given (check_of (station_in words))
 
 -- ---- a sheet: S, N, the phase after it, the intercept's change
 

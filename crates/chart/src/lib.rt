@@ -1,10 +1,11 @@
-// Control charts: opening, and one set charted. What a call is handed comes from C, each part on its own: the places, a week, the numbers, a buffer.
+// Control charts: opening, one set charted, and a check. What a call is handed comes from C, each part on its own: the
+// places, a week, the numbers, a buffer.
 
 #![tactic(auto)]
 
 ghost use Rattle.std.specs.Prelude.{◌≡◌, ◌+◌, ◌-◌, ◌≤◌, length};
 ghost use Rattle.decimal.specs.Put.{Put};
-ghost use Rattle.chart_rules.specs.Calls.{result_of, bytes_of};
+ghost use Rattle.chart_rules.specs.Calls.{result_of, bytes_of, check_of};
 ghost use Rattle.chart_rules.specs.Places.{chart_at};
 ghost use Rattle.chart_rules.specs.InPlace.{open_in, left_by, chart_set_in};
 
@@ -65,4 +66,17 @@ pub fn chart_set(
     ensures { record { answer = result; places = state.new; buffer = out.new } ≡ chart_set_in state.old week numbers.now out.old }
 {
     chart_set_at(state, week, numbers, out, 0)
+}
+
+// ---- a check
+
+// Number 0 alone: whether a chart that was loaded may be used.
+pub fn check(state: &[i32]) -> Result<(), Refusal>
+    ensures { result ≡ check_of (chart_at state.now) }
+{
+    if chart_state::sound(chart_state::chart_at(state)) {
+        Ok(())
+    } else {
+        Err(Refusal::UnsoundChart)
+    }
 }

@@ -1,16 +1,17 @@
--- docs/SPECIFICATION.md, "Control charts" and "Refused calls": opening a chart, and the call that charts one set (chart, week, pairs, buffer).
-use Rattle.std.specs.Prelude.{ℕ, not, List, [], ◌∷◌, ◌++◌, ℤ, pos, length, Some, None, Result, Ok, Err}
+-- docs/SPECIFICATION.md, "Control charts" and "Refused calls": opening a chart, the call that charts one set (chart,
+-- week, pairs, buffer), and a chart's check.
+use Rattle.std.specs.Prelude.{ℕ, not, cond, List, [], ◌∷◌, ◌++◌, ℤ, pos, length, Some, None, Result, Ok, Err}
 use Rattle.whole.specs.Lists.{Check}
 use Rattle.whole.specs.Says.{Says}
 use Rattle.decimal.specs.Put.{overwritten}
 use Rattle.chart_rules.specs.Rows.{row_exists}
 use Rattle.chart_rules.specs.Sets.{set_of}
-use Rattle.chart_rules.specs.Charts.{fresh_chart, next_chart}
+use Rattle.chart_rules.specs.Charts.{sound, fresh_chart, next_chart}
 use Rattle.chart_rules.specs.Lines.{values_of, fields, line_of}
 use Rattle.chart_rules.specs.Refusals.{number_of, first_refusal, refusal_of}
 use Rattle.chart_rules.specs.declared.Chart.{Chart}
 use Rattle.chart_rules.specs.declared.Refusal.{Refusal}
-use Rattle.chart_rules.specs.declared.Refusal.TheVariants.{UnknownRow}
+use Rattle.chart_rules.specs.declared.Refusal.TheVariants.{UnknownRow, UnsoundChart}
 use Rattle.chart_rules.specs.declared.Charted.{Charted}
 
 -- ---- opening
@@ -71,6 +72,12 @@ unfoldable pub chart_set_of : Chart → ℕ → List ℤ → List ℕ → SetCha
 chart_set_of c week numbers buffer =
     let r = result_of c week numbers (length buffer) in
     record { result = r; buffer = overwritten (bytes_of r.answer) buffer }
+
+-- ---- a check, which changes nothing: is this chart, loaded from storage, say, one that the calls take up?
+
+-- number 0
+abbrev pub check_of : Chart → Result (Unit {0}) Refusal
+check_of c = cond (sound c) (Ok tt) (Err UnsoundChart)
 
 -- ---- the number and the values of each answer
 

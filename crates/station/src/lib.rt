@@ -1,11 +1,14 @@
-// A station's calls: opening, sheet and repair, on the station in its caller's places. Judged first, written last: a refused call writes
-// nothing, but for a refused opening, which leaves a fresh station of row 0.
-// Places, day, line and numbers stay parameters, as the exported functions hand them on from C: a struct of them would be put together only to be taken apart.
+// A station's calls: opening, sheet, repair and check, on the station in its caller's places. Judged first, written
+// last: a refused call writes nothing, but for a refused opening, which leaves a fresh station of row 0.
+// Places, day, line and numbers stay parameters, as the exported functions hand them on from C: a struct of them would
+// be put together only to be taken apart.
 
 #![tactic(auto)]
 
 ghost use Rattle.std.specs.Prelude.{◌≡◌, Ok};
 ghost use Rattle.station_rules.specs.InPlace.{open_in, sheet_in, repair_in};
+ghost use Rattle.station_rules.specs.Places.{station_in};
+ghost use Rattle.station_rules.specs.Stations.{check_of};
 ghost use Rattle.station.specs.Accepted.{accepted_in, Acceptable, Ruled};
 
 use line::{HeldSet, SoundLine};
@@ -85,4 +88,17 @@ pub fn repair(state: &mut [i32], day: u32) -> Result<(), Refusal>
     }
     station_places::put_day(state, day);
     Ok(())
+}
+
+// ---- a check
+
+// Number 0 alone: whether a station that was loaded may be used.
+pub fn check(state: &[i32]) -> Result<(), Refusal>
+    ensures { result ≡ check_of (station_in state.now) }
+{
+    if station_soundness::is_sound(state) {
+        Ok(())
+    } else {
+        Err(Refusal::UnsoundStation)
+    }
 }

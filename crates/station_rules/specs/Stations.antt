@@ -1,4 +1,4 @@
--- The four calls of a station: opening, sheet, repair and market test. A refused call hands back the station as it came.
+-- The calls of a station: opening, sheet, repair, market test and check. A refused call hands back the station as it came.
 use Rattle.std.specs.Prelude.{Result, Ok, Err, ℕ, cond, List, ◌∷◌, map, get_or, set, replicate, ℤ}
 use Rattle.std.specs.Prelude.{Option, None, Some}
 use Rattle.station_rules.specs.Rows.{row_exists}
@@ -7,7 +7,7 @@ use Rattle.station_rules.specs.Lines.{Values, past_set, change_of}
 use Rattle.station_rules.specs.Markets.{certificate_of}
 use Rattle.station_rules.specs.Judging.{sheet_numbers, market_numbers, repair_numbers, sheet_set, sheet_verdict}
 use Rattle.station_rules.specs.Held.{fresh_line, line_values, line_after, phase_said, repaired_line}
-use Rattle.station_rules.specs.Soundness.{sound_check}
+use Rattle.station_rules.specs.Soundness.{sound, sound_check}
 use Rattle.station_rules.specs.declared.Scan.{Scan}
 use Rattle.station_rules.specs.declared.Asked.{Asked}
 use Rattle.station_rules.specs.declared.Basis.{Basis}
@@ -113,3 +113,9 @@ unfoldable pub market_of : Station → ℕ → ℕ → Scan → Asked → Basis 
 market_of s day line scan asked basis =
     market_result (first_number (sound_check s ∷ market_numbers s.row s.day (values_of s line) day line scan asked basis))
     s (market_station s day) (certificate_of s.row (values_of s line) line scan asked basis)
+
+-- ---- a check, which changes nothing: is this station, loaded from storage, say, one that the calls take up?
+
+-- number 0
+abbrev pub check_of : Station → Result Unit Refusal
+check_of s = cond (sound s) (Ok tt) (Err (refusal_of 0))
