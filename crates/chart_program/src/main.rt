@@ -1,36 +1,112 @@
-// The chart program: a chart text from standard input; the wheat chart's output, or the refusal's line, to standard output.
+// The chart program: a chart text from standard input or a file; the wheat chart's output, or the refusal's line, to
+// standard output. Called with a file it also says on standard error why a text is refused.
 
 #![tactic(auto)]
 
-ghost use Rattle.std.specs.Prelude.{◌≤◌, length, IfOk};
+mod command_line;
 
-use chart_rules::{MOST_TEXT, PROGRAM_ROOM};
-use std::io;
-use std::io::{Read, Write};
+use std::alloc::Global;
+use std::io::Read;
+use std::process::ExitCode;
+use std::{env, fs, io};
+use text_stream::{Charted, StreamError};
 
-// One byte more than a text may have, so that a longer one is seen.
-const TEXT_ROOM: usize = MOST_TEXT + 1;
+// As which the program is handed out.
+pub(crate) const NAME: &str = "grain-chart";
 
-// Reads from the front on, in pieces, to the input's end or the room's: how many bytes it read.
-// A loop of its own: the library's read_to_end needs a heap, and how far a piece goes the input decides.
-fn read_text(input: &mut impl Read, room: &mut [u8]) -> io::Result<usize>
-    ensures { IfOk result (λ n. n ≤ length room.new) }
-{
-    let mut n = 0;
-    while n < room.len() {
-        let more = input.read(&mut room[n..])?;
-        if more == 0 {
-            break;
+pub(crate) const VERSION: &str = "0.9.0";
+
+// What the exit status says where a file is named, besides 0, charted, and 2, the command line.
+const REFUSED: u8 = 1;
+
+const FAILED: u8 = 3;
+
+// The one that it is where none is named: a filter tells a refused text by what it prints.
+const FILTER_FAILED: u8 = 1;
+
+// Charts what an input holds, by its name: what was charted, or nothing and why on standard error.
+fn chart<R: Read>(
+    rt: &HostRuntime,
+    alloc: Global,
+    input: &mut R,
+    name: &str,
+) -> io::Result<Option<Charted>> {
+    match text_stream::chart(alloc, input, &mut rt.stdout()) {
+        Ok(charted) => Ok(Some(charted)),
+        Err(StreamError::NotRead(error)) => {
+            eprintln!(rt; "{NAME}: {name} could not be read: {error}")?;
+            Ok(None)
         }
-        n += more;
+        Err(StreamError::NotWritten(error)) => {
+            eprintln!(rt; "{NAME}: the output could not be written: {error}")?;
+            Ok(None)
+        }
     }
-    Ok(n)
 }
 
-fn main(rt: HostRuntime) -> io::Result<()> {
-    let mut text = [0u8; TEXT_ROOM];
-    let n = read_text(&mut rt.stdin(), &mut text)?;
-    let mut out = [0u8; PROGRAM_ROOM];
-    let k = text_print::print_text(&text[..n], &mut out);
-    rt.stdout().write_all(&out[..k])
+fn filter(rt: &HostRuntime, alloc: Global) -> io::Result<u8> {
+    let charted = chart(rt, alloc, &mut rt.stdin(), "standard input")?;
+    Ok(if charted.is_some() { 0 } else { FILTER_FAILED })
+}
+
+// Says why a text is refused: the status.
+fn tell(rt: &HostRuntime, alloc: Global, name: &str, charted: &Charted) -> io::Result<u8> {
+    let Some(refused) = charted.refused else {
+        return Ok(0);
+    };
+    let sentence = text_fault::sentence(alloc, &charted.text, refused)?;
+    eprintln!(rt; "{NAME}: {name}: {sentence}")?;
+    Ok(REFUSED)
+}
+
+fn chart_named<R: Read>(
+    rt: &HostRuntime,
+    alloc: Global,
+    input: &mut R,
+    name: &str,
+) -> io::Result<u8> {
+    match chart(rt, alloc, input, name)? {
+        Some(charted) => tell(rt, alloc, name, &charted),
+        None => Ok(FAILED),
+    }
+}
+
+fn chart_file(rt: &HostRuntime, alloc: Global, file: &str) -> io::Result<u8> {
+    if file == "-" {
+        return chart_named(rt, alloc, &mut rt.stdin(), "standard input");
+    }
+    match fs::open(rt, file) {
+        Ok(mut input) => chart_named(rt, alloc, &mut input, file),
+        Err(error) => {
+            eprintln!(rt; "{NAME}: {file} could not be opened: {error}")?;
+            Ok(FAILED)
+        }
+    }
+}
+
+fn run(rt: &HostRuntime) -> io::Result<u8> {
+    let alloc = rt.alloc();
+    let words: Vec<String> = env::args(rt)?.collect(alloc)?;
+    let command = command_line::grain_chart(alloc)?;
+    match command.try_get_matches_from(words.as_slice()) {
+        Ok(matches) => match matches.get_str("file") {
+            Some(file) => chart_file(rt, alloc, file),
+            None => filter(rt, alloc),
+        },
+        Err(error) => {
+            error.print(rt)?;
+            Ok(error.exit_code() as u8)
+        }
+    }
+}
+
+fn main(rt: HostRuntime) -> ExitCode {
+    ExitCode::from(match run(&rt) {
+        Ok(status) => status,
+        Err(error) => {
+            // where standard error is what failed, the status alone is left to say so
+            let _told = eprintln!(rt; "{NAME}: {error}");
+            FAILED
+        }
+    })
 }

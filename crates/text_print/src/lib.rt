@@ -5,8 +5,16 @@
 ghost use Rattle.std.specs.Prelude.{◌≡◌, ◌≤◌, length};
 ghost use Rattle.decimal.specs.Put.{Put};
 ghost use Rattle.chart_rules.specs.Printing.{refusal_bytes, printed_of};
+ghost use Rattle.text_print.specs.Refusing.{refused_of};
 
-use chart_rules::LINE_ROOM;
+use chart_rules::{LINE_ROOM, RefusedText};
+
+// How many bytes were printed, and the refusal where it is one that they tell.
+#[derive(Clone, Copy)]
+pub struct Printed {
+    pub length: usize,
+    pub refused: Option<RefusedText>,
+}
 
 // `refused`, the number and the text line, from the buffer's start on: the length.
 #[tactic(auto, using(decimal::proofs::Show::width_10))]
@@ -20,21 +28,31 @@ fn put_refusal(out: &mut [u8], number: u32, line: u32) -> usize
     decimal::put_byte(out, c, b'\n')
 }
 
-// What the program prints, from the buffer's start on: the text's output, or the line of its refusal. It gives the length.
+// What the program prints, from the buffer's start on: the text's output, or the line of its refusal.
 // A buffer of fewer than 40 bytes gets nothing.
-#[tactic(auto, using(chart_rules::proofs::Printing::printed_short))]
-pub fn print_text(text: &[u8], out: &mut [u8]) -> usize
-    ensures printed { printed_of text.now out.old ≡ record { length = result; buffer = out.new } }
-    ensures fits { result ≤ length out.old }
+#[tactic(auto, using(chart_rules::proofs::Printing::printed_short), unfolding(crate::specs::Refusing::refused_of))]
+pub fn print_text(text: &[u8], out: &mut [u8]) -> Printed
+    ensures printed { printed_of text.now out.old ≡ record { length = result.length; buffer = out.new } }
+    ensures refused { result.refused ≡ refused_of text.now (length out.old) }
+    ensures fits { result.length ≤ length out.old }
 {
     if out.len() < LINE_ROOM {
-        return 0;
+        return Printed {
+            length: 0,
+            refused: None,
+        };
     }
     match text::chart_text(text, out) {
-        Ok(length) => length,
+        Ok(length) => Printed {
+            length,
+            refused: None,
+        },
         Err(refused) => {
             let number = u32::from(refused.refusal);
-            put_refusal(out, number, refused.line)
+            Printed {
+                length: put_refusal(out, number, refused.line),
+                refused: Some(refused),
+            }
         }
     }
 }

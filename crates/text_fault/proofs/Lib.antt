@@ -1,0 +1,6 @@
+pub mod Exact
+pub mod Lengths
+pub mod AtFault
+pub mod Found
+pub mod First
+pub mod NamesLine
