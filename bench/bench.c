@@ -2,7 +2,8 @@
  * sets of sheets and of charts at every limit and beside it, every day and date of the calendar, a ship lot also in other
  * records, and every byte of their answers and states is compared; then they are timed.
  *
- *     cc -O2 -Iinclude bench/bench.c bench/plain.c crates/abi/out/libabi.a -o target/bench
+ *     lib=target/dist/$(tools/dist --name)/lib/libgrain.a
+ *     cc -O2 -Iinclude bench/bench.c bench/plain.c $lib -o target/bench
  *     target/bench          21 rounds after one to warm up
  *     target/bench 1        the comparison, and one round to see that it runs
  *

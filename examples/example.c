@@ -39,8 +39,7 @@ static void sheet(struct grain_station *station, uint32_t day, int32_t result, i
 static void market(struct grain_station *station, uint32_t day, float percent)
 {
     printf("day %" PRIu32 ": ", day);
-    struct grain_certificate c = grain_market(station, day, GRAIN_LINE_PROTEIN, GRAIN_WHEAT, percent, 0, 0,
-                                              GRAIN_LINE_FIGURE, GRAIN_DRY, 0);
+    struct grain_certificate c = grain_market_wheat(station, day, percent, grain_basis_dry());
     if (!c.accepted) {
         refused("market test", c.number);
         return;
@@ -50,12 +49,11 @@ static void market(struct grain_station *station, uint32_t day, float percent)
            c.figure / 10, c.figure % 10, c.converted / 10, c.converted % 10, c.day, c.intercept);
 }
 
-/* Wet gluten of a class of wheat. The scan brings protein and gluten. */
-static void gluten(struct grain_station *station, uint32_t day, float protein, float percent, uint32_t asked)
+/* Wet gluten of a class of wheat. */
+static void gluten(struct grain_station *station, uint32_t day, float percent, uint32_t wheat_class)
 {
     printf("day %" PRIu32 ": ", day);
-    struct grain_certificate c = grain_market(station, day, GRAIN_LINE_PROTEIN, GRAIN_WHEAT_GLUTEN, protein, percent, 0,
-                                              asked, GRAIN_STANDARD, 0);
+    struct grain_certificate c = grain_market_gluten(station, day, wheat_class, percent);
     if (!c.accepted) {
         refused("gluten test", c.number);
         return;
@@ -89,8 +87,9 @@ static void monitored(void)
     struct grain_weekday weekday = grain_weekday_of_day(due.day);
     if (!retrieved.accepted || !holiday.accepted || !due.accepted || !date.accepted || !weekday.accepted)
         return;
-    printf("retrieved on day %" PRIu32 ": results due on %s, %" PRIu32 "-%02" PRIu32 "-%02" PRIu32 ", day %" PRIu32 "\n",
-           retrieved.day, weekdays[weekday.weekday - GRAIN_MONDAY], date.year, date.month, date.day, due.day);
+    printf("retrieved on day %" PRIu32 ": results due on %s, %" PRIu32 "-%02" PRIu32 "-%02" PRIu32, retrieved.day,
+           weekdays[weekday.weekday - GRAIN_MONDAY], date.year, date.month, date.day);
+    printf(", day %" PRIu32 "\n", due.day);
 }
 
 static void calendar(struct grain_station *station)
@@ -102,11 +101,10 @@ static void calendar(struct grain_station *station)
 
 /* Certifies a sublot and writes its record. The figure that stands at the certificate's basis is the converted one. A
  * refused certificate is all zeros, which would pass for a record. */
-static bool certify(struct grain_station *station, float percent, uint32_t basis_kind, int32_t tonnes,
+static bool certify(struct grain_station *station, float percent, struct grain_basis basis, int32_t tonnes,
                     struct grain_sublot *record)
 {
-    struct grain_certificate c = grain_market(station, (uint32_t)station->day, GRAIN_LINE_PROTEIN, GRAIN_WHEAT, percent,
-                                              0, 0, GRAIN_LINE_FIGURE, basis_kind, 0);
+    struct grain_certificate c = grain_market_wheat(station, (uint32_t)station->day, percent, basis);
     if (!c.accepted) {
         refused("sublot", c.number);
         return false;
@@ -135,9 +133,9 @@ static void ship_lot(const struct grain_sublot *records, size_t count)
 static void shipped(struct grain_station *station)
 {
     struct grain_sublot records[3];
-    if (!certify(station, 13.54f, GRAIN_STANDARD, 11000, &records[0]) ||
-        !certify(station, 13.61f, GRAIN_STANDARD, 9000, &records[1]) ||
-        !certify(station, 13.54f, GRAIN_DRY, 5000, &records[2]))
+    if (!certify(station, 13.54f, grain_basis_standard(), 11000, &records[0]) ||
+        !certify(station, 13.61f, grain_basis_standard(), 9000, &records[1]) ||
+        !certify(station, 13.54f, grain_basis_dry(), 5000, &records[2]))
         return;
     ship_lot(records, 2);
     ship_lot(records, 3);
@@ -152,8 +150,8 @@ int main(void)
     market(&station, 1, 13.54f);    /* the check is due after an adjustment */
     sheet(&station, 2, 1010, 1011); /* the check is met */
     market(&station, 3, 13.54f);
-    gluten(&station, 3, 13.54f, 34.12f, GRAIN_GLUTEN_HARD_RED_WINTER);
-    gluten(&station, 3, 13.54f, 34.12f, GRAIN_GLUTEN_OTHER_CLASS);
+    gluten(&station, 3, 34.12f, GRAIN_GLUTEN_HARD_RED_WINTER);
+    gluten(&station, 3, 34.12f, GRAIN_GLUTEN_OTHER_CLASS);
     sheet(&station, 2, 1010, 1011); /* a day before the last */
     if (!grain_repair(&station, 4).accepted)
         return 1;

@@ -1,7 +1,8 @@
-/* Many calls alike, of the core or of plain C, for counting instructions: the difference of two counts is that of the calls
- * between.
+/* Many calls alike, of the core or of plain C, for counting instructions: the difference of two counts is that of the
+ * calls between.
  *
- *     cc -O2 -Iinclude -Ibench examples/instructions.c bench/plain.c crates/abi/out/libabi.a -o target/instructions
+ *     lib=target/dist/$(tools/dist --name)/lib/libgrain.a
+ *     cc -O2 -Iinclude -Ibench examples/instructions.c bench/plain.c $lib -o target/instructions
  *     for n in 1000 2000; do valgrind --tool=callgrind target/instructions core market-corn $n; done
  */
 #include "plain.h"
@@ -32,7 +33,8 @@ static const struct side sides[2] = {
      plain_date_from_day, plain_day_from_date, plain_working_day, plain_ship_lot},
 };
 
-/* A station whose lines each hold four sets that aren't zero, of days 1 to 4, and the newest two of them as its newest. */
+/* A station whose lines each hold four sets that aren't zero, of days 1 to 4, and the newest two of them as its
+ * newest. */
 static struct grain_station opened(const struct side *side, uint64_t row)
 {
     struct grain_station station;

@@ -1,4 +1,4 @@
-/* All fourteen calls from four threads at once, each on stations and charts of its own and all over the same holidays
+/* All sixteen calls from four threads at once, each on stations and charts of its own and all over the same holidays
  * and sublots, beside the same calls by one thread: every answer, state and output must be the same. */
 #define _POSIX_C_SOURCE 200809L
 
@@ -10,7 +10,7 @@
 #include <stdlib.h>
 #include <string.h>
 
-enum { THREADS = 4, CALLS = 100000, STATIONS = 8, CHARTS = 8, KINDS = 14, HOLIDAYS = 11, SUBLOTS = 8 };
+enum { THREADS = 4, CALLS = 100000, STATIONS = 8, CHARTS = 8, KINDS = 16, HOLIDAYS = 11, SUBLOTS = 8 };
 
 /* Those of 2026, as days. */
 static const int32_t holidays[HOLIDAYS] = {9497, 9515, 9543, 9641, 9666, 9681, 9746, 9781, 9811, 9826, 9855};
@@ -81,13 +81,24 @@ static void lot_call(struct job *job)
     job->accepted[13] += l.accepted;
 }
 
+static void check_call(struct job *job, const struct grain_station *station, const struct grain_chart *chart)
+{
+    struct grain_answer s = grain_station_check(station), c = grain_chart_check(chart);
+    take(job, &s, sizeof s);
+    take(job, &c, sizeof c);
+    job->accepted[14] += s.accepted;
+    job->accepted[15] += c.accepted;
+}
+
 static void one_call(struct job *job)
 {
     struct grain_station *station = &job->stations[draw(job, STATIONS)];
     struct grain_chart *chart = &job->charts[draw(job, CHARTS)];
-    uint32_t day = (uint32_t)station->day + draw(job, 2), call = draw(job, 46);
+    uint32_t day = (uint32_t)station->day + draw(job, 2), call = draw(job, 47);
     uint64_t line = station->row == GRAIN_ROW_CORN ? draw(job, 3) : 0;
-    if (call == 45) {
+    if (call == 46) {
+        check_call(job, station, chart);
+    } else if (call == 45) {
         lot_call(job);
     } else if (call >= 40) {
         calendar_call(job);
@@ -121,7 +132,8 @@ static void one_call(struct job *job)
         for (size_t i = 0; i < length; i += 6) {
             int32_t baseline = 1200 + (int32_t)draw(job, 500);
             int32_t value = baseline + bias - station->lines[line].intercept;
-            const int32_t sample[6] = {baseline, value + (int32_t)draw(job, 9), value - (int32_t)draw(job, 9), -1, -1, -1};
+            int32_t first = value + (int32_t)draw(job, 9), second = value - (int32_t)draw(job, 9);
+            const int32_t sample[6] = {baseline, first, second, -1, -1, -1};
             memcpy(numbers + i, sample, sizeof sample);
         }
         struct grain_outcome o = grain_sheet(station, day, line, numbers, length);

@@ -1,64 +1,70 @@
 /* The measuring core of a grain laboratory service: analyser readings, reference sheets and intercepts, market tests,
- * control charts, a calendar, ship lots. For C11, C++11 and later. Link libabi.a; nothing else is needed.
+ * control charts, a calendar, ship lots. For C11, C++11 and later, on x86-64.
  *
- * State. A station and a chart are plain structs of int32_t in the caller's memory, opened by a call and then changed in
- * place. They hold no pointers: copy, store and compare them as you like, and store GRAIN_LAYOUT beside them. Whatever
- * comes back from storage under this layout's number may be handed in: a state with a field out of its bounds, or sheets
- * out of the order of their days, is refused by number 0. Lines that the row doesn't use and sets beyond the held ones may
- * hold anything; they are not looked at. The calendar and ship lots have no state.
+ *     cc program.c $(pkg-config --cflags --libs grain)
+ *     cc program.c -Iinclude lib/libgrain.a
  *
- * Answers. Every call answers a struct by value. `accepted` is 1, or 0 for a refused call; `number` is then the reason
- * (GRAIN_REFUSED_...). The first that applies is answered, in the order of the numbers, 23 and 24 standing between 8 and 9,
- * 25 and 26 in the place of 12, between 11 and 13. Where working days are counted, 27 is tried twice: of the day handed in
- * before 28, of the day found after it. All other fields are 0 where a call is refused, except a text's `line`. A refused
- * call writes nothing at all: no field of the state, no byte of a buffer. There is one exception: a refused opening leaves
- * a fresh state of row 0, every field 0.
+ * A day's calls. grain_open makes a station for a product, once. grain_sheet enters a reference sheet and tells whether
+ * the line is open. On an open line grain_market_wheat, grain_market_corn and grain_market_gluten test market grain;
+ * each answers a certificate. grain_repair enters a repair. grain_chart_open and grain_chart_set keep a control chart.
  *
- * Units. "Hundredths" are whole hundredths of a percent (1354 is 13.54 percent), "tenths" whole tenths of a percent. Days
- * are whole numbers from 0 to 99999, weeks from 1 to 9999. On a station days never go back, on a chart weeks rise; both are
- * counted as the laboratory likes. The calendar below is one way to count days: its day 0 is 1 January 2000. Station calls
- * take a day's number and do not look at the calendar.
+ * Answers. Every call answers a struct by value. Look at `accepted` first: it is 1, or 0 for a refused call. Then
+ * `number` is the reason (GRAIN_REFUSED_...), and grain_message gives its sentence. All other fields of a refused call
+ * are 0, except a text's `line`. A refused call writes nothing at all: no field of the state, no byte of a buffer.
+ * There is one exception: a refused opening leaves a fresh state of row 0, every field 0.
  *
- * Pointers. A station or chart must not be NULL. Any other array may be NULL if its length is 0: a sheet without numbers is
- * refused by 4, a set without numbers by 20, an empty text by 16, a buffer of length 0 by 22, and a lot without records by
- * 29, each where no earlier number applies; a list of holidays of length 0 says that there are none. Arrays handed to one
- * call must not overlap each other or the state (GRAIN_RESTRICT).
+ * Units. "Hundredths" are whole hundredths of a percent (1354 is 13.54 percent), "tenths" whole tenths of a percent.
+ * Days are whole numbers from 0 to 99999, weeks from 1 to 9999. On a station days never go back, on a chart weeks rise;
+ * both are counted as the laboratory likes. The calendar below is one way to count days: its day 0 is 1 January 2000.
+ * Station calls take a day's number and do not look at the calendar.
+ *
+ * State. A station and a chart are plain structs of int32_t in the caller's memory, opened by a call and then changed
+ * in place. They hold no pointers: copy, store and compare them as you like, and store GRAIN_LAYOUT beside them.
+ * Whatever comes back from storage under this layout's number may be handed in: a state with a field out of its bounds,
+ * or sheets out of the order of their days, is refused by number 0. grain_station_check and grain_chart_check ask for
+ * that alone. The calendar and ship lots have no state.
+ *
+ * Spare places, which are the lines that the row lacks and the sets beyond the held ones, may hold anything: no answer
+ * depends on them, and number 0 does not look at them. They do not always stay as they are. An opening sets everything
+ * to 0. A repair empties the sets of all three lines, so those that wheat lacks are written too: every set and both
+ * counts become 0, phase 1 becomes 0, and intercepts and all other phases stay. A sheet that adjusts or shuts its line,
+ * and one that meets its check, sets the line's sets to 0 before it enters its own, if it does. A sheet or a chart set
+ * that joins others moves every place of its kind on by one, spare ones too.
+ *
+ * The order of refusals. The first that applies is answered, in the order of the numbers, 23 and 24 standing between 8
+ * and 9, 25 and 26 in the place of 12, between 11 and 13. Where working days are counted, 27 is tried twice: of the day
+ * handed in before 28, of the day found after it.
+ *
+ * Pointers. A station or chart must not be NULL. Any other array may be NULL if its length is 0: a sheet without
+ * numbers is refused by 4, a set without numbers by 20, an empty text by 16, a buffer of length 0 by 22, and a lot
+ * without records by 29, each where no earlier number applies; a list of holidays of length 0 says that there are none.
+ * Arrays handed to one call must not overlap each other or the state (GRAIN_RESTRICT).
  *
  * Threads. There is no global state, and nothing is allocated: calls on different stations and charts may run on any
- * threads at once. Calls on the same station or chart must not. The calls of the calendar and of ship lots only read: any
- * number of them may run at once, also over one list, as long as nobody writes to it. */
+ * threads at once. Calls on the same station or chart must not, except grain_station_check and grain_chart_check, which
+ * only read. So do the calls of the calendar and of ship lots: any number of them may run at once, also over one list,
+ * as long as nobody writes to it.
+ *
+ * Other versions. A program links only with a library of this header's GRAIN_INTERFACE. States that an earlier version
+ * stored are carried over as docs/MIGRATION.md says. */
 #ifndef GRAIN_H
 #define GRAIN_H
 
 #include <stddef.h>
 #include <stdint.h>
 
-#define GRAIN_VERSION "0.8.0"
+#define GRAIN_VERSION "0.9.0"
 
-/* Changes whenever struct grain_station or struct grain_chart does, or what their fields mean: a stored state of another
- * layout is not to be used before it is carried over.
- *
- * Stations of layouts 1 to 3 are shorter: 47 int32_t, not 68. Row, day, and of each line intercept and phase are as they
- * were; then a line had `held`, 0 to 4, and four past sets, newest first. Of the held ones the first two are `newest` now,
- * and those whose sum isn't 0 are `nonzero`; `newest_held` and `nonzero_held` say how many stand there, and what is not in
- * use is 0. That is all, unless four are held, at least one of them with sum 0, and the oldest of the four is not more than
- * 14 days older than the station's day: then sets before these four may still count for the test of five, and layout 3 did
- * not keep them. Write behind the others, as far as there is room, the line's newest sets before these four whose sum isn't
- * 0, from the laboratory's sheets since the last repair and that line's last sheet that didn't meet, and count them in
- * `nonzero_held`. Without them a test of five may be left out that is due. Carry over only what the version before takes: a
- * station that it refuses by 0 is damaged.
- *
- * Stations of layout 1, besides: 0 and 1 mean of a phase what they did. 2 stood for every line whose check is due and now
- * stands for an adjusted one: where the line was shut, that is where its newest accepted sheet gave change 0, write
- * GRAIN_SHUT. Where that is not known, leave 2: sheets and certificates are the same either way, only 25 is told in place
- * of 26. Layout 1 has no phase 3: a station with it is damaged, and its line was not shut.
- *
- * Charts of layout 3 are as they were. Charts of layouts 1 and 2: sizes and places are the same, but a held set had the sum
- * of its differences where it has the plot now, and no plot can be computed from a sum. Open the chart's row anew and chart
- * the sets of its newest four weeks again, in their order: that makes the chart that it would be. Number 0 does not tell
- * such a chart, since a sum of up to 10000 lies within the bounds of a plot: look at the number that you stored. A chart
- * that holds no set may be used as it is. */
+/* The number of stored states: it changes whenever struct grain_station or struct grain_chart does, or what their
+ * fields mean. Store it beside each state. One stored under another number is not to be used before it is carried
+ * over. */
 #define GRAIN_LAYOUT 4
+
+/* The number of the calls: it is raised whenever a struct that crosses or a call's signature changes, states and
+ * answers alike. It is part of the names by which the library's calls are linked (grain_open_1) and of the shared
+ * library's own name (libgrain.so.1). So a program that was compiled by the header of another number does not link with
+ * this library, nor start with it. Languages without headers write the name with its number. */
+#define GRAIN_INTERFACE 1
 
 #ifdef __cplusplus
 #define GRAIN_STATIC_ASSERT(test, text) static_assert(test, text)
@@ -81,6 +87,30 @@
 #define GRAIN_NODISCARD
 #endif
 
+/* ---- Names, as they are linked ---- */
+
+/* Callers write grain_open, and grain_open_1 is linked. */
+#define GRAIN_JOINED(name, number) name##_##number
+#define GRAIN_NUMBERED(name, number) GRAIN_JOINED(name, number)
+#define GRAIN_LINKED(name) GRAIN_NUMBERED(name, GRAIN_INTERFACE)
+
+#define grain_reading GRAIN_LINKED(grain_reading)
+#define grain_open GRAIN_LINKED(grain_open)
+#define grain_sheet GRAIN_LINKED(grain_sheet)
+#define grain_repair GRAIN_LINKED(grain_repair)
+#define grain_market GRAIN_LINKED(grain_market)
+#define grain_station_check GRAIN_LINKED(grain_station_check)
+#define grain_chart_open GRAIN_LINKED(grain_chart_open)
+#define grain_chart_set GRAIN_LINKED(grain_chart_set)
+#define grain_chart_text GRAIN_LINKED(grain_chart_text)
+#define grain_chart_check GRAIN_LINKED(grain_chart_check)
+#define grain_day_from_date GRAIN_LINKED(grain_day_from_date)
+#define grain_date_from_day GRAIN_LINKED(grain_date_from_day)
+#define grain_weekday_of_day GRAIN_LINKED(grain_weekday_of_day)
+#define grain_working_day GRAIN_LINKED(grain_working_day)
+#define grain_results_due GRAIN_LINKED(grain_results_due)
+#define grain_ship_lot GRAIN_LINKED(grain_ship_lot)
+
 #ifdef __cplusplus
 extern "C" {
 #endif
@@ -96,8 +126,8 @@ extern "C" {
 #define GRAIN_LINE_OIL 1
 #define GRAIN_LINE_STARCH 2
 
-/* Phases of a line in a station. Only an open line tests market grain. A repair leaves an adjusted line adjusted and a shut
- * one shut. */
+/* Phases of a line in a station. Only an open line tests market grain. A repair leaves an adjusted line adjusted and a
+ * shut one shut. */
 #define GRAIN_NEW 0      /* no accepted sheet yet, or open and then repaired */
 #define GRAIN_OPEN 1     /* the newest sheet met every average due */
 #define GRAIN_ADJUSTED 2 /* the newest sheet changed the intercept: the next sheet is the check */
@@ -114,8 +144,8 @@ struct grain_past_set {
     int32_t count; /* N: twice the number of samples kept (two results each) */
 };
 
-/* One constituent of the grain. Number 0 asks each kind of its sets by itself and does not compare the two; it refuses a
- * sum of 0 among those of nonzero. */
+/* One constituent of the grain. Number 0 asks each kind of its sets by itself and does not compare the two; it refuses
+ * a sum of 0 among those of nonzero. */
 struct grain_line {
     int32_t intercept;                /* added to every reading, hundredths, -1000 to 1000 */
     int32_t phase;                    /* GRAIN_NEW, GRAIN_OPEN, GRAIN_ADJUSTED or GRAIN_SHUT */
@@ -132,14 +162,14 @@ struct grain_station {
 };
 
 /* A sheet's numbers: six for each sample, sample after sample, in this order, in hundredths. Each lies in 0 to 10000; a
- * third and an again pair that were not measured are GRAIN_NOT_MEASURED. The samples may stand in any order: the answer and
- * the station after it are the same, and so is a refusal.
+ * third and an again pair that were not measured are GRAIN_NOT_MEASURED. The samples may stand in any order: the answer
+ * and the station after it are the same, and so is a refusal.
  *
- * A third is due where first and second differ by more than the pair limit, and must not be given elsewhere. The closest
- * two of a sample's results are its pair; its deviation is their sum plus twice the line's intercept minus twice the
- * baseline. A sample deviates if this is beyond twice the sample limit. If one does, and the sheet's largest minus its
- * smallest deviation is above twice the range limit, an again pair is due for each deviating sample, and must not be given
- * elsewhere; a sample that still deviates by its again pair is dropped.
+ * A third is due where first and second differ by more than the pair limit, and must not be given elsewhere. The
+ * closest two of a sample's results are its pair; its deviation is their sum plus twice the line's intercept minus
+ * twice the baseline. A sample deviates if this is beyond twice the sample limit. If one does, and the sheet's largest
+ * minus its smallest deviation is above twice the range limit, an again pair is due for each deviating sample, and must
+ * not be given elsewhere; a sample that still deviates by its again pair is dropped.
  *
  *     limits, hundredths    pair  sample  range
  *     wheat protein           30      40     50
@@ -164,8 +194,8 @@ struct grain_station {
 #define GRAIN_FAULT 2        /* the analyser reported a fault, as does every number above 3: refused by 8 */
 #define GRAIN_WHEAT_GLUTEN 3 /* first is protein, second wet gluten; only what is asked for is looked at, third never */
 
-/* What a market test asks for. Wet gluten is asked for on line 0 of wheat, with the wheat's class and GRAIN_STANDARD, and
- * needs a scan GRAIN_WHEAT_GLUTEN. */
+/* What a market test asks for. Wet gluten is asked for on line 0 of wheat, with the wheat's class and GRAIN_STANDARD,
+ * and needs a scan GRAIN_WHEAT_GLUTEN. */
 #define GRAIN_LINE_FIGURE 0            /* the line's own figure */
 #define GRAIN_GLUTEN_HARD_RED_WINTER 1 /* wet gluten of Hard Red Winter wheat */
 #define GRAIN_GLUTEN_HARD_RED_SPRING 2 /* wet gluten of Hard Red Spring wheat */
@@ -189,7 +219,8 @@ struct grain_station {
 /* A charted set. */
 struct grain_held_set {
     int32_t count; /* pairs, 1 to 5 */
-    int32_t plot;  /* the plotted average: original mean minus monitor mean, each first rounded to a hundredth, halves up */
+    int32_t plot;  /* the plotted average: original mean minus monitor mean, each first rounded to a hundredth, halves
+                      going up */
     int32_t range; /* largest minus smallest difference, hundredths */
 };
 
@@ -202,8 +233,8 @@ struct grain_chart {
 
 /* A buffer for an output line needs this many bytes, whatever the line's length. */
 #define GRAIN_LINE_BYTES 40
-/* A buffer for a text's output needs GRAIN_LINE_BYTES for each line to be written, its names line too: one line for each
- * week of the text. This many bytes are enough for any text. */
+/* A buffer for a text's output needs GRAIN_LINE_BYTES for each line to be written, its names line too: one line for
+ * each week of the text. This many bytes are enough for any text. */
 #define GRAIN_OUTPUT_BYTES 400000
 /* The longest text. */
 #define GRAIN_TEXT_BYTES 65536
@@ -228,9 +259,9 @@ struct grain_chart {
 /* The most records that a lot may have. */
 #define GRAIN_LOT_RECORDS 500
 
-/* A sublot as its record has it. Any numbers may stand here: those out of their bounds are refused by 30. Of a certificate
- * take `converted` and `basis`, which belong together; of a refused one both are 0, which is within the bounds: look at its
- * `accepted` first. */
+/* A sublot as its record has it. Any numbers may stand here: those out of their bounds are refused by 30. Of a
+ * certificate take `converted` and `basis`, which belong together; of a refused one both are 0, which is within the
+ * bounds: look at its `accepted` first. */
 struct grain_sublot {
     int32_t figure; /* as it was certified, tenths: 0 to 1000 */
     int32_t basis;  /* the moisture basis that the figure stands at, hundredths: 0 to 5000 */
@@ -274,7 +305,8 @@ struct grain_charted {
     uint32_t range;  /* hundredths */
     uint32_t al;     /* 1 or 0: the plot is at or beyond the absolute limit */
     uint32_t tl;     /* the plot and the one before are at or beyond the tolerance limit, on one side */
-    uint32_t run;    /* this and three of the previous four plots: on one side of 0, their exact mean beyond the limit */
+    uint32_t run;    /* this and three of the previous four plots: on one side of 0, their exact mean beyond the
+                        limit */
     uint32_t ral;    /* the range is at or above its absolute limit */
     uint32_t rtl;    /* the range and the one before are at or above their tolerance limit */
     uint32_t length; /* of the output line, its line feed included */
@@ -303,8 +335,8 @@ struct grain_weekday {
     uint32_t weekday; /* GRAIN_MONDAY to GRAIN_SUNDAY */
 };
 
-/* The mean figure is the fraction weighted_sum over tonnes, in tenths, not reduced; `mean` is it rounded. Of a refused lot
- * both are 0. */
+/* The mean figure is the fraction weighted_sum over tonnes, in tenths, not reduced; `mean` is it rounded. Of a refused
+ * lot both are 0. */
 struct grain_lot {
     uint32_t accepted, number;
     int32_t basis;         /* that of every record, hundredths */
@@ -351,7 +383,8 @@ struct grain_lot {
 #define GRAIN_REFUSED_SUBLOT 30
 #define GRAIN_REFUSED_UNLIKE_BASIS 31
 
-/* What is wrong, in a technician's words. */
+/* What is wrong, in a technician's words. Languages without headers find the same sentences in the library, as `const
+ * char *grain_message_1(uint32_t number)`. */
 static inline const char *grain_message(uint32_t number)
 {
     switch (number) {
@@ -366,15 +399,16 @@ static inline const char *grain_message(uint32_t number)
     case GRAIN_REFUSED_SHEET_LENGTH:
         return "the reference sheet must have six numbers for every sample of this grain";
     case GRAIN_REFUSED_SHEET_NUMBER:
-        return "a number on the reference sheet lies outside 0.00 to 100.00 percent, is missing, or only one half of an "
-               "again pair is filled in";
+        return "a number on the reference sheet lies outside 0.00 to 100.00 percent, is missing, or only one half of "
+               "an again pair is filled in";
     case GRAIN_REFUSED_THIRD:
-        return "a third measurement is missing where first and second are too far apart, or is filled in where they are "
-               "not";
+        return "a third measurement is missing where first and second are too far apart, or is filled in where they "
+               "are not";
     case GRAIN_REFUSED_AGAIN:
         return "an again pair is missing for a sample that must be measured again, or is filled in where none is due";
     case GRAIN_REFUSED_SCAN:
-        return "the analyser reported a fault, the scan is of another grain, or gluten is asked for and the scan has none";
+        return "the analyser reported a fault, the scan is of another grain, or gluten is asked for and the scan has "
+               "none";
     case GRAIN_REFUSED_FLOAT:
         return "the analyser's value is not a number, below 0 or above 100 percent";
     case GRAIN_REFUSED_BASIS:
@@ -382,8 +416,8 @@ static inline const char *grain_message(uint32_t number)
     case GRAIN_REFUSED_CORRECTED:
         return "the reading with its intercept lies outside 0.00 to 100.00 percent";
     case GRAIN_REFUSED_NEW_LINE:
-        return "the line is new: no reference sheet of it was accepted since the station was opened or repaired; enter one "
-               "that meets its averages first";
+        return "the line is new: no reference sheet of it was accepted since the station was opened or repaired; enter "
+               "one that meets its averages first";
     case GRAIN_REFUSED_SET_TOO_OLD:
         return "the line's newest reference sheet is more than 7 days old; enter a new one first";
     case GRAIN_REFUSED_AT_BASIS:
@@ -412,18 +446,18 @@ static inline const char *grain_message(uint32_t number)
     case GRAIN_REFUSED_ADJUSTED_LINE:
         return "the line was adjusted and its check is due: enter a reference sheet that meets the check limit first";
     case GRAIN_REFUSED_SHUT_LINE:
-        return "the line was shut, as its sheet kept no sample or called for an intercept beyond 10.00 percent, and its "
-               "check is due: enter a reference sheet that meets the check limit first";
+        return "the line was shut, as its sheet kept no sample or called for an intercept beyond 10.00 percent, and "
+               "its check is due: enter a reference sheet that meets the check limit first";
     case GRAIN_REFUSED_NO_SUCH_DAY:
-        return "there is no such date or day, or the day found is past the last: the calendar runs from 1 January 2000, "
-               "day 0, to 15 October 2273, day 99999";
+        return "there is no such date or day, or the day found is past the last: the calendar runs from 1 January "
+               "2000, day 0, to 15 October 2273, day 99999";
     case GRAIN_REFUSED_HOLIDAYS:
         return "the holidays must be day numbers from 0 to 99999, each later than the one before it";
     case GRAIN_REFUSED_LOT_SIZE:
         return "a ship lot must have 1 to 500 sublot records";
     case GRAIN_REFUSED_SUBLOT:
-        return "a sublot's record must have 1 to 1000000 tonnes, a figure of 0.0 to 100.0 percent and a moisture basis of "
-               "0.00 to 50.00 percent";
+        return "a sublot's record must have 1 to 1000000 tonnes, a figure of 0.0 to 100.0 percent and a moisture basis "
+               "of 0.00 to 50.00 percent";
     case GRAIN_REFUSED_UNLIKE_BASIS:
         return "the sublots' figures do not all stand at one moisture basis; they are not converted";
     default:
@@ -431,9 +465,14 @@ static inline const char *grain_message(uint32_t number)
     }
 }
 
-/* ---- Calls ---- */
+/* ---- Calls on stations ---- */
 
-/* The whole hundredth nearest to an analyser's value in percent, an exact half going up. Refused by 9. */
+/* The whole hundredth nearest to an analyser's value in percent, an exact half going up. Refused by 9.
+ *
+ * The answer does not depend on the thread's floating-point state: every float is answered alike in each rounding mode,
+ * and where denormal floats are read or written as zero. So it is with the floats of a market test. A signaling NaN is
+ * refused by 9 as every NaN is; but where the thread has unmasked the invalid-operation exception, the processor traps
+ * inside the comparison, and where it has unmasked the denormal-operand exception, so it does at a denormal float. */
 GRAIN_NODISCARD struct grain_value grain_reading(float percent);
 
 /* Makes *station a fresh station of a product row, whatever stood there. Refused by 1: then it is one of row 0. */
@@ -441,13 +480,14 @@ GRAIN_NODISCARD struct grain_answer grain_open(struct grain_station *station, ui
 
 /* Enters a reference sheet for a line; changes the station's day and that line. Refused by 0, 2 to 7.
  *
- * An average is a sum over a count, of one sheet or of several together; it exceeds a limit beyond it on either side. On a
- * new or open line the sheet is tested alone, then with the newest set of `newest`, then with both, as far as these are at
- * most 14 days old; then with the four sets of `nonzero`, if all four are at most 14 days old and all five sums lie on one
- * side of 0. A sheet whose sum is 0 is so tested for no five, and sets whose sum is 0 are passed over by it. On an adjusted
- * or shut line there is one test, the check. The first average that exceeds its limit, rounded to a whole hundredth with
- * halves away from zero, is subtracted from the intercept, and the line is adjusted, or shut where the intercept would
- * leave -1000 to 1000. A sheet that keeps no sample shuts its line. Both kinds of sets are emptied by each of these.
+ * An average is a sum over a count, of one sheet or of several together; it exceeds a limit beyond it on either side.
+ * On a new or open line the sheet is tested alone, then with the newest set of `newest`, then with both, as far as
+ * these are at most 14 days old; then with the four sets of `nonzero`, if all four are at most 14 days old and all five
+ * sums lie on one side of 0. A sheet whose sum is 0 is so tested for no five, and sets whose sum is 0 are passed over
+ * by it. On an adjusted or shut line there is one test, the check. The first average that exceeds its limit, rounded to
+ * a whole hundredth with halves away from zero, is subtracted from the intercept, and the line is adjusted, or shut
+ * where the intercept would leave -1000 to 1000. A sheet that keeps no sample shuts its line. Both kinds of sets are
+ * emptied by each of these.
  *
  *     limits of averages, hundredths    one  two  three  five  check
  *     wheat protein                      10    7      5     3      5
@@ -455,8 +495,9 @@ GRAIN_NODISCARD struct grain_answer grain_open(struct grain_station *station, ui
  *     corn oil                           15   10      7     6      7
  *     corn starch                        35   25     20    15     20
  */
-GRAIN_NODISCARD struct grain_outcome grain_sheet(struct grain_station *GRAIN_RESTRICT station, uint32_t day, uint64_t line,
-                                                 const int32_t *GRAIN_RESTRICT numbers, size_t numbers_len);
+GRAIN_NODISCARD struct grain_outcome grain_sheet(struct grain_station *GRAIN_RESTRICT station, uint32_t day,
+                                                 uint64_t line, const int32_t *GRAIN_RESTRICT numbers,
+                                                 size_t numbers_len);
 
 /* Enters a repair or a new slope: every line's past sheets go, open lines become new, a check that is due stays due (an
  * adjusted line stays adjusted, a shut one shut), intercepts stay. Refused by 0, 2. */
@@ -465,34 +506,120 @@ GRAIN_NODISCARD struct grain_answer grain_repair(struct grain_station *station, 
 /* Tests market grain on a line; changes the station's day only. The floats are in percent. asked: the line's own figure
  * (GRAIN_LINE_FIGURE), or wet gluten of a class of wheat (GRAIN_GLUTEN_...).
  *
- * Wet gluten is tested under the protein line's phase and newest sheet. Its intercept is that line's times 3.029, rounded
- * to a hundredth, halves away from zero. It is reported at 14.0 percent moisture and not converted: both figures are equal.
+ * Wet gluten is tested under the protein line's phase and newest sheet. Its intercept is that line's times 3.029,
+ * rounded to a hundredth, halves away from zero. It is reported at 14.0 percent moisture and not converted: both
+ * figures are equal.
  *
- * Refused by 0, 2, 3, 8, 23, 24, 9, 10, 11, then 12 (a new line), 25 (an adjusted one) or 26 (a shut one), then 13, 14, in
- * this order; by 23 and 24 only where wet gluten is asked for, and by 10 and 14 only where it isn't. */
+ * Refused by 0, 2, 3, 8, 23, 24, 9, 10, 11, then 12 (a new line), 25 (an adjusted one) or 26 (a shut one), then 13, 14,
+ * in this order; by 23 and 24 only where wet gluten is asked for, and by 10 and 14 only where it isn't. */
 GRAIN_NODISCARD struct grain_certificate grain_market(struct grain_station *station, uint32_t day, uint64_t line,
                                                       uint32_t scan_kind, float first, float second, float third,
                                                       uint32_t asked, uint32_t basis_kind, int32_t basis);
 
+/* Whether a station may be handed in, as every call on it asks first: accepted, or refused by 0. It only reads. */
+GRAIN_NODISCARD struct grain_answer grain_station_check(const struct grain_station *station);
+
+/* ---- Market tests by product ---- */
+
+/* grain_market with few arguments. A basis and a corn scan are structs, so that they do not compile in another's place.
+ * A day and a line, or a day and a class, that change places are refused by 2, 3 or 23 where both days are above 2. A
+ * day and a float that change places are told by -Wconversion. The answers and refusals are those of grain_market. */
+
+/* A moisture basis: GRAIN_STANDARD, GRAIN_DRY, GRAIN_SPECIFIED or GRAIN_AS_IS with its hundredths. */
+struct grain_basis {
+    uint32_t kind;
+    int32_t hundredths;
+};
+
+/* The grain's standard basis: 12.00 percent of wheat, 0 of corn. */
+static inline struct grain_basis grain_basis_standard(void)
+{
+    struct grain_basis basis = {GRAIN_STANDARD, 0};
+    return basis;
+}
+
+/* Dry: 0 percent. */
+static inline struct grain_basis grain_basis_dry(void)
+{
+    struct grain_basis basis = {GRAIN_DRY, 0};
+    return basis;
+}
+
+/* A basis that the customer specifies, in hundredths of a percent, 0 to 5000. */
+static inline struct grain_basis grain_basis_specified(int32_t hundredths)
+{
+    struct grain_basis basis = {GRAIN_SPECIFIED, hundredths};
+    return basis;
+}
+
+/* The grain as it is: its official moisture, in hundredths of a percent, 0 to 5000. */
+static inline struct grain_basis grain_basis_as_is(int32_t moisture)
+{
+    struct grain_basis basis = {GRAIN_AS_IS, moisture};
+    return basis;
+}
+
+/* Protein of wheat. protein: the scan's, percent. Refused by 8 on a corn station. */
+GRAIN_NODISCARD static inline struct grain_certificate grain_market_wheat(struct grain_station *station, uint32_t day,
+                                                                          float protein, struct grain_basis basis)
+{
+    return grain_market(station, day, GRAIN_LINE_PROTEIN, GRAIN_WHEAT, protein, 0, 0, GRAIN_LINE_FIGURE, basis.kind,
+                        basis.hundredths);
+}
+
+/* A scan of corn, percent. */
+struct grain_corn_scan {
+    float protein;
+    float oil;
+    float starch;
+};
+
+/* A constituent of corn. line: GRAIN_LINE_PROTEIN, GRAIN_LINE_OIL or GRAIN_LINE_STARCH. Of the scan only its value is
+ * looked at. Refused by 8 on a wheat station, where line is 0, and else by 3. */
+GRAIN_NODISCARD static inline struct grain_certificate grain_market_corn(struct grain_station *station, uint32_t day,
+                                                                         uint64_t line, struct grain_corn_scan scan,
+                                                                         struct grain_basis basis)
+{
+    return grain_market(station, day, line, GRAIN_CORN, scan.protein, scan.oil, scan.starch, GRAIN_LINE_FIGURE,
+                        basis.kind, basis.hundredths);
+}
+
+/* Wet gluten of wheat. wheat_class: GRAIN_GLUTEN_HARD_RED_WINTER or GRAIN_GLUTEN_HARD_RED_SPRING; every other number is
+ * refused by 23. gluten: the scan's, percent. It is reported at 14.0 percent moisture. Refused by 8 on a corn
+ * station. */
+GRAIN_NODISCARD static inline struct grain_certificate grain_market_gluten(struct grain_station *station, uint32_t day,
+                                                                           uint32_t wheat_class, float gluten)
+{
+    uint32_t asked = wheat_class == GRAIN_LINE_FIGURE ? GRAIN_GLUTEN_OTHER_CLASS : wheat_class;
+    return grain_market(station, day, GRAIN_LINE_PROTEIN, GRAIN_WHEAT_GLUTEN, 0, gluten, 0, asked, GRAIN_STANDARD, 0);
+}
+
+/* ---- Calls on charts ---- */
+
 /* Makes *chart a fresh chart of a chart row, whatever stood there. Refused by 1: then it is one of row 0. */
 GRAIN_NODISCARD struct grain_answer grain_chart_open(struct grain_chart *chart, uint64_t row);
 
-/* Charts a week's set. numbers: original and monitor of one to five pairs in turn, hundredths, 0 to 10000. The output line
- * (`26 5 -9 69 0 0 0 1 0` and a line feed, no NUL) is written from the start of line, and no byte after it.
+/* Charts a week's set. numbers: original and monitor of one to five pairs in turn, hundredths, 0 to 10000. The output
+ * line (`26 5 -9 69 0 0 0 1 0` and a line feed, no NUL) is written from the start of line, and no byte after it.
  * Refused by 0, 19 to 22. */
 GRAIN_NODISCARD struct grain_charted grain_chart_set(struct grain_chart *GRAIN_RESTRICT chart, uint32_t week,
                                                      const int32_t *GRAIN_RESTRICT numbers, size_t numbers_len,
                                                      uint8_t *GRAIN_RESTRICT line, size_t line_len);
 
-/* Charts a whole text as wheat protein on a fresh chart. The text is a names line `week sample original monitor`, then a
- * line for each pair: week, number of the sample in its week from 1, original, monitor, whole numbers with single spaces
- * between them and a line feed after them. The output is a names line and one line for each week; no byte after it is
- * written. The text's lines are judged in turn: the first bad one is answered. Refused by 15 to 19, 21, 22. */
+/* Charts a whole text as wheat protein on a fresh chart. The text is a names line `week sample original monitor`, then
+ * a line for each pair: week, number of the sample in its week from 1, original, monitor, whole numbers with single
+ * spaces between them and a line feed after them. The output is a names line and one line for each week; no byte after
+ * it is written. The text's lines are judged in turn: the first bad one is answered. Refused by 15 to 19, 21, 22. */
 GRAIN_NODISCARD struct grain_written grain_chart_text(const uint8_t *GRAIN_RESTRICT text, size_t text_len,
                                                       uint8_t *GRAIN_RESTRICT out, size_t out_len);
 
-/* The calendar's calls take bounded time whatever they are given: dates and weekdays are found by arithmetic, working days
- * in one pass over the holidays that ends at the first bad one, so that at most 100001 of them are looked at. */
+/* Whether a chart may be handed in, as grain_chart_set asks first: accepted, or refused by 0. It only reads. */
+GRAIN_NODISCARD struct grain_answer grain_chart_check(const struct grain_chart *chart);
+
+/* ---- Calls of the calendar ---- */
+
+/* They take bounded time whatever they are given: dates and weekdays are found by arithmetic, working days in one pass
+ * over the holidays that ends at the first bad one, so that at most 100001 of them are looked at. */
 
 /* The day that has this date. Refused by 27: there is no such date from 1 January 2000 to 15 October 2273. */
 GRAIN_NODISCARD struct grain_day grain_day_from_date(uint32_t year, uint32_t month, uint32_t day);
@@ -503,28 +630,38 @@ GRAIN_NODISCARD struct grain_date grain_date_from_day(uint32_t day);
 /* The weekday of a day. Refused by 27: the day is above 99999. */
 GRAIN_NODISCARD struct grain_weekday grain_weekday_of_day(uint32_t day);
 
-/* The day that is count working days after a day: of the days that come after it, the count-th that is a working day. The
- * day itself is never counted, working or not; a count of 0 gives it back whatever it is.
+/* The day that is count working days after a day: of the days that come after it, the count-th that is a working day.
+ * The day itself is never counted, working or not; a count of 0 gives it back whatever it is.
  *
- * holidays: day numbers, each later than the one before it. A holiday on a Saturday or Sunday changes nothing. The whole
- * list is judged, also the holidays before the day and those after the day found, and also where count is 0.
+ * holidays: day numbers, each later than the one before it. A holiday on a Saturday or Sunday changes nothing. The
+ * whole list is judged, also the holidays before the day and those after the day found, and also where count is 0.
  *
  * Refused by 27 (the day is above 99999), then 28, then 27 (the day found would be above 99999). */
 GRAIN_NODISCARD struct grain_day grain_working_day(uint32_t day, uint32_t count, const int32_t *holidays,
                                                    size_t holidays_len);
 
-/* The day by which monitoring results are due at the service point: 2 working days after the day of retrieval, which is not
- * counted. The same as grain_working_day with count 2, and refused alike. */
+/* The day by which monitoring results are due at the service point: 2 working days after the day of retrieval, which is
+ * not counted. The same as grain_working_day with count 2, and refused alike. */
 GRAIN_NODISCARD struct grain_day grain_results_due(uint32_t day, const int32_t *holidays, size_t holidays_len);
 
+/* ---- The call for ship lots ---- */
+
 /* States a ship lot from its sublots' records: the lowest and the highest figure, the tonnes, and the tonnage-weighted
- * mean, exactly and in tenths. A record of n tonnes counts as n records of one: the records' order makes no difference, nor
- * does it whether a sublot stands in one record or in several of its figure and basis, as long as there are no more than
- * 500 and none has more than 1000000 tonnes. The records are only read, 500 of them at most.
+ * mean, exactly and in tenths. A record of n tonnes counts as n records of one: the records' order makes no difference,
+ * nor does it whether a sublot stands in one record or in several of its figure and basis, as long as there are no more
+ * than 500 and none has more than 1000000 tonnes. The records are only read, 500 of them at most.
  *
  * Refused by 29 (no record or more than 500), then 30 (a record out of its bounds, wherever it stands), then 31 (the
  * records' bases are not all equal). */
 GRAIN_NODISCARD struct grain_lot grain_ship_lot(const struct grain_sublot *records, size_t count);
+
+/* ---- Which library it is ---- */
+
+/* These three keep their names and signatures in every version: the library's own GRAIN_LAYOUT, GRAIN_INTERFACE and
+ * GRAIN_VERSION. */
+uint32_t grain_layout(void);
+uint32_t grain_interface(void);
+const char *grain_version(void);
 
 /* ---- Layout, as the library has it ---- */
 

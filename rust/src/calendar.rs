@@ -1,5 +1,9 @@
 //! The calendar: dates, days and weekdays, and working days.
 
+use std::error::Error;
+use std::fmt;
+use std::str::FromStr;
+
 use crate::ffi;
 use crate::refusal::{Refusal, answer};
 
@@ -9,8 +13,23 @@ pub const LAST_DAY: u32 = 99_999;
 /// A date as a laboratory writes it. Later dates are greater.
 ///
 /// Any numbers may stand here: those of no date are refused ([`Refusal::NoSuchDay`]).
+///
+/// It is printed and read as ISO 8601 has it, `2026-11-27`. Reading looks at the form alone
+/// ([`ParseDateError`]): whether there is such a date is told by [`day_from_date`].
+///
+/// ```
+/// use grain::{Date, Refusal, day_from_date};
+///
+/// let date: Date = "2026-11-27".parse()?;
+/// assert_eq!(date, Date { year: 2026, month: 11, day: 27 });
+/// assert_eq!(date.to_string(), "2026-11-27");
+/// assert_eq!(day_from_date(date), Ok(9827));
+/// assert_eq!(day_from_date("2026-02-30".parse()?), Err(Refusal::NoSuchDay));
+/// # Ok::<(), grain::ParseDateError>(())
+/// ```
 #[derive(Clone, Copy, Debug, PartialEq, Eq, Hash, PartialOrd, Ord)]
 pub struct Date {
+    /// 2000 to 2273.
     pub year: u32,
     /// 1 to 12.
     pub month: u32,
@@ -18,17 +37,94 @@ pub struct Date {
     pub day: u32,
 }
 
-/// A weekday, numbered as in ISO 8601.
+/// A text that isn't a date of the form `2026-11-27`: four digits of the year, two of the month and two of the
+/// day, hyphens between them, and nothing else.
+///
+/// ```
+/// use grain::Date;
+///
+/// for other in ["2026-11-7", "27.11.2026", "2026-11-27 ", "20261127"] {
+///     let error = other.parse::<Date>().unwrap_err();
+///     assert_eq!(error.to_string(), "a date is written as year, month and day, like 2026-11-27");
+/// }
+/// ```
+#[derive(Clone, Copy, Debug, PartialEq, Eq, Hash)]
+#[non_exhaustive]
+pub struct ParseDateError;
+
+impl fmt::Display for ParseDateError {
+    fn fmt(&self, f: &mut fmt::Formatter) -> fmt::Result {
+        f.write_str("a date is written as year, month and day, like 2026-11-27")
+    }
+}
+
+impl Error for ParseDateError {}
+
+impl fmt::Display for Date {
+    fn fmt(&self, f: &mut fmt::Formatter) -> fmt::Result {
+        f.pad(&format!(
+            "{:04}-{:02}-{:02}",
+            self.year, self.month, self.day
+        ))
+    }
+}
+
+impl FromStr for Date {
+    type Err = ParseDateError;
+
+    fn from_str(text: &str) -> Result<Date, ParseDateError> {
+        let bytes = text.as_bytes();
+        let [_, _, _, _, b'-', _, _, b'-', _, _] = bytes else {
+            return Err(ParseDateError);
+        };
+        Ok(Date {
+            year: decimal(&bytes[..4])?,
+            month: decimal(&bytes[5..7])?,
+            day: decimal(&bytes[8..])?,
+        })
+    }
+}
+
+/// The number of these few digits.
+fn decimal(digits: &[u8]) -> Result<u32, ParseDateError> {
+    digits.iter().try_fold(0, |number, digit| match digit {
+        b'0'..=b'9' => Ok(10 * number + u32::from(digit - b'0')),
+        _ => Err(ParseDateError),
+    })
+}
+
+/// A weekday, numbered as in ISO 8601. It is printed by its name, `Monday`.
 #[derive(Clone, Copy, Debug, PartialEq, Eq, Hash)]
 #[repr(u8)]
 pub enum Weekday {
+    /// A working day unless it is a holiday, as are the next four.
     Monday = 1,
+    /// The second day of the week.
     Tuesday = 2,
+    /// The third.
     Wednesday = 3,
+    /// The fourth.
     Thursday = 4,
+    /// The fifth.
     Friday = 5,
+    /// Never a working day.
     Saturday = 6,
+    /// Never a working day.
     Sunday = 7,
+}
+
+impl fmt::Display for Weekday {
+    fn fmt(&self, f: &mut fmt::Formatter) -> fmt::Result {
+        f.pad(match self {
+            Weekday::Monday => "Monday",
+            Weekday::Tuesday => "Tuesday",
+            Weekday::Wednesday => "Wednesday",
+            Weekday::Thursday => "Thursday",
+            Weekday::Friday => "Friday",
+            Weekday::Saturday => "Saturday",
+            Weekday::Sunday => "Sunday",
+        })
+    }
 }
 
 impl Weekday {
@@ -54,6 +150,10 @@ impl Weekday {
 
 /// The day that has this date.
 ///
+/// # Errors
+/// [`Refusal::NoSuchDay`]: there is no such date from 1 January 2000 to 15 October 2273.
+///
+/// # Examples
 /// ```
 /// use grain::{Date, Refusal, day_from_date};
 ///
@@ -71,6 +171,10 @@ pub fn day_from_date(date: Date) -> Result<u32, Refusal> {
 
 /// The date of a day.
 ///
+/// # Errors
+/// [`Refusal::NoSuchDay`]: the day is above [`LAST_DAY`].
+///
+/// # Examples
 /// ```
 /// use grain::{Date, Refusal, date_from_day, day_from_date};
 ///
@@ -91,6 +195,10 @@ pub fn date_from_day(day: u32) -> Result<Date, Refusal> {
 
 /// The weekday of a day.
 ///
+/// # Errors
+/// [`Refusal::NoSuchDay`]: the day is above [`LAST_DAY`].
+///
+/// # Examples
 /// ```
 /// use grain::{Refusal, Weekday, weekday};
 ///
@@ -108,6 +216,11 @@ pub fn weekday(day: u32) -> Result<Weekday, Refusal> {
 /// it back whatever it is. Monday to Friday are working days unless they are among the holidays, which
 /// are day numbers, each later than the one before it. The whole list is judged, whatever the count.
 ///
+/// # Errors
+/// [`Refusal::NoSuchDay`] if the day is above [`LAST_DAY`], then [`Refusal::Holidays`], then
+/// [`Refusal::NoSuchDay`] if the day found would be above it.
+///
+/// # Examples
 /// ```
 /// use grain::{Refusal, working_day};
 ///
@@ -130,6 +243,10 @@ pub fn working_day(day: u32, count: u32, holidays: &[i32]) -> Result<u32, Refusa
 /// The day by which monitoring results are due: 2 working days after the day of retrieval, which is
 /// not counted.
 ///
+/// # Errors
+/// Those of [`working_day`].
+///
+/// # Examples
 /// ```
 /// use grain::{Date, date_from_day, day_from_date, results_due};
 ///

@@ -34,6 +34,7 @@ pub struct Chart {
 /// What a charted set gave.
 #[derive(Clone, Copy, Debug, PartialEq, Eq, Hash)]
 pub struct ChartValues {
+    /// The week of the set.
     pub week: u32,
     /// The number of pairs.
     pub count: u32,
@@ -68,7 +69,9 @@ pub struct ChartValues {
 /// ```
 #[derive(Clone, Copy, Debug, PartialEq, Eq, Hash)]
 pub struct TextRefusal {
+    /// Why the text is refused.
     pub refusal: Refusal,
+    /// The text line: 1 is the names line, 0 no line.
     pub line: u32,
 }
 
@@ -84,9 +87,13 @@ impl fmt::Display for TextRefusal {
 impl Error for TextRefusal {}
 
 impl Chart {
+    /// The chart row of wheat protein.
     pub const WHEAT_PROTEIN: u64 = 0;
+    /// The chart row of barley protein.
     pub const BARLEY_PROTEIN: u64 = 1;
+    /// The chart row of soybean protein.
     pub const SOYBEAN_PROTEIN: u64 = 2;
+    /// The chart row of soybean oil.
     pub const SOYBEAN_OIL: u64 = 3;
 
     /// The bytes that a buffer for an output line must have.
@@ -96,6 +103,9 @@ impl Chart {
     pub const BYTES: usize = 4 + 4 * ffi::CHART;
 
     /// A fresh chart of a chart row.
+    ///
+    /// # Errors
+    /// [`Refusal::NoSuchRow`]: none of the four.
     pub fn open(row: u64) -> Result<Chart, Refusal> {
         let mut state = ffi::Chart::default();
         // SAFETY: the chart is lent for the call.
@@ -110,12 +120,15 @@ impl Chart {
 
     /// Takes up a chart stored in layout 4 or 3, which are alike, or one without sets stored in layout 1 or 2.
     /// Numbers that are no sound chart are taken up as well, and refused by every call
-    /// ([`Refusal::Unsound`]).
+    /// ([`Refusal::Unsound`]); [`Chart::is_sound`] tells it before.
     ///
-    /// In layouts 1 and 2 a set holds the sum of its differences, from which no plot can be computed. A chart
-    /// with such sets is an error ([`RestoreError::ChartOfSums`]): open its row anew and chart the sets of its
-    /// newest four weeks again, in their order. That makes the chart that it would be.
+    /// # Errors
+    /// A chart with sets of layout 1 or 2 ([`RestoreError::ChartOfSums`]): there a set holds the sum of its
+    /// differences, from which no plot can be computed. Open its row anew and chart the sets of its newest four
+    /// weeks again, in their order. That makes the chart that it would be. Another layout or a wrong length
+    /// ([`RestoreError::Layout`], [`RestoreError::Length`]).
     ///
+    /// # Examples
     /// ```
     /// use grain::{Chart, RestoreError};
     ///
@@ -149,6 +162,31 @@ impl Chart {
         }
     }
 
+    /// Whether the chart is sound, as every chart is that was opened and then changed by sets alone. One that
+    /// isn't is refused by every call ([`Refusal::Unsound`]): ask this of a chart taken up from storage. Places
+    /// beyond the sets held are not looked at.
+    ///
+    /// ```
+    /// use grain::{Chart, Refusal};
+    ///
+    /// let chart = Chart::open(Chart::WHEAT_PROTEIN)?;
+    /// assert!(chart.is_sound());
+    ///
+    /// // Five sets are held where there is room for four.
+    /// let mut places = chart.places();
+    /// places[2] = 5;
+    /// let mut damaged = Chart::from_places(places);
+    /// assert!(!damaged.is_sound());
+    /// let refused = damaged.set(1, &[1300, 1300], &mut [0; Chart::LINE]);
+    /// assert_eq!(refused, Err(Refusal::Unsound));
+    /// # Ok::<(), Refusal>(())
+    /// ```
+    pub fn is_sound(&self) -> bool {
+        // SAFETY: the chart is lent for the call, which only reads it.
+        let said = unsafe { ffi::grain_chart_check(&self.state) };
+        answer(said.accepted, said.number).is_ok()
+    }
+
     /// The chart's 15 numbers: row, last week, held, then four sets of count, plot and range.
     pub fn places(&self) -> [i32; ffi::CHART] {
         self.state.places()
@@ -167,6 +205,11 @@ impl Chart {
     /// Charts the set of a week: one to five pairs original, monitor in hundredths of a percent. The
     /// output line is written from the buffer's start; no later byte is touched.
     ///
+    /// # Errors
+    /// In this order [`Refusal::Unsound`], [`Refusal::Week`], [`Refusal::PairCount`], [`Refusal::Result`],
+    /// [`Refusal::BufferTooShort`]: a buffer of [`Chart::LINE`] bytes is enough for any line.
+    ///
+    /// # Examples
     /// ```
     /// use grain::{Chart, Refusal};
     ///
@@ -214,6 +257,9 @@ impl Chart {
 
 /// Charts a text into a lent buffer from its start and gives the length written. The buffer must
 /// have 40 bytes for each line written, the names line too. On refusal nothing is written.
+///
+/// # Errors
+/// Those of [`chart_text`], and [`Refusal::BufferTooShort`] where every line of the text is good.
 pub fn chart_text_into(text: &[u8], out: &mut [u8]) -> Result<usize, TextRefusal> {
     // SAFETY: the two arrays are lent for the call and don't overlap.
     let said =
@@ -227,9 +273,14 @@ pub fn chart_text_into(text: &[u8], out: &mut [u8]) -> Result<usize, TextRefusal
     }
 }
 
-/// Charts a text of wheat results: the names line `week sample original monitor`, then a line for
-/// each sample.
+/// Charts a text of wheat protein results: the names line `week sample original monitor`, then a line for
+/// each sample, its results in hundredths of a percent without a point. The text's lines are judged in turn.
 ///
+/// # Errors
+/// The first bad line, and why: [`Refusal::TextTooLong`], [`Refusal::NamesLine`], [`Refusal::ValueLine`],
+/// [`Refusal::SampleNumber`], [`Refusal::Week`], [`Refusal::Result`].
+///
+/// # Examples
 /// ```
 /// let text = b"week sample original monitor\n26 1 1315 1307\n26 2 1018 1054\n";
 /// let charted = grain::chart_text(text)?;

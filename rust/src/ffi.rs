@@ -3,11 +3,17 @@
 //! Everything here is also offered by the safe types of this crate. Every call answers a struct:
 //! `accepted` is 1 or 0, `number` the refusal's number (0 if accepted), then the values, which are 0
 //! where a call is refused; only a refused text carries its text line.
+//!
+//! The calls are linked by names that end in the interface's number ([`INTERFACE`]), `grain_open_1` and
+//! so on. With a library of another interface a program doesn't link.
+
+use std::ffi::c_char;
 
 pub use crate::lot::Sublot;
 pub use crate::station::PastSet;
 
-/// Changes whenever [`Station`] or [`Chart`] does, or what their fields mean.
+/// The number of the layout of stored states. Changes whenever [`Station`] or [`Chart`] does, or what
+/// their fields mean.
 pub const LAYOUT: u32 = 4;
 
 /// Places (numbers) of a station.
@@ -15,165 +21,237 @@ pub const STATION: usize = 68;
 /// Places (numbers) of a chart.
 pub const CHART: usize = 15;
 
-/// The phases of a [`Line`].
+/// The phase of a [`Line`] without an accepted sheet, or of one that was open and then repaired.
 pub const NEW: i32 = 0;
+/// The phase of a [`Line`] whose newest sheet met every average due.
 pub const OPEN: i32 = 1;
+/// The phase of a [`Line`] whose newest sheet changed the intercept: its check is due.
 pub const ADJUSTED: i32 = 2;
+/// The phase of a [`Line`] whose newest sheet kept nothing, or would have moved the intercept out of its
+/// bounds: its check is due.
 pub const SHUT: i32 = 3;
 /// The phase of an [`Outcome`] that isn't [`OPEN`]: the line is adjusted or shut.
 pub const CHECK_DUE: i32 = 2;
 
-/// A line: its intercept in hundredths of a percent, its phase, the first `newest_held` of `newest` and the
-/// first `nonzero_held` of `nonzero`, newest first.
+/// A line of a station.
 #[repr(C)]
 #[derive(Clone, Copy, Debug, Default, PartialEq, Eq, Hash)]
 pub struct Line {
+    /// Added to every reading, hundredths of a percent, -1000 to 1000.
     pub intercept: i32,
+    /// [`NEW`], [`OPEN`], [`ADJUSTED`] or [`SHUT`].
     pub phase: i32,
+    /// How many of `newest` are in use: 1 or 2 on an open line, else 0.
     pub newest_held: i32,
+    /// The newest sheets that met, newest first.
     pub newest: [PastSet; 2],
+    /// How many of `nonzero` are in use: 0 to 4 on an open line, else 0.
     pub nonzero_held: i32,
+    /// The newest sheets that met and whose sum isn't 0, newest first.
     pub nonzero: [PastSet; 4],
 }
 
-/// A station: its product row, the day of its last accepted call, and its lines.
+/// A station's state.
 #[repr(C)]
 #[derive(Clone, Copy, Debug, Default, PartialEq, Eq, Hash)]
 pub struct Station {
+    /// The product row: 0 wheat, 1 corn.
     pub row: i32,
+    /// The day of the last accepted call, 0 if there was none.
     pub day: i32,
+    /// Wheat uses the first.
     pub lines: [Line; 3],
 }
 
-/// A charted set: pairs, the plotted average and the range of the differences in hundredths of a percent.
+/// A charted set.
 #[repr(C)]
 #[derive(Clone, Copy, Debug, Default, PartialEq, Eq, Hash)]
 pub struct HeldSet {
+    /// Pairs, 1 to 5.
     pub count: i32,
+    /// The plotted average, hundredths of a percent.
     pub plot: i32,
+    /// The largest minus the smallest difference, hundredths of a percent.
     pub range: i32,
 }
 
-/// A chart: its row, its last week, and the first `held` of `sets`, newest first.
+/// A chart's state.
 #[repr(C)]
 #[derive(Clone, Copy, Debug, Default, PartialEq, Eq, Hash)]
 pub struct Chart {
+    /// The chart row, 0 to 3.
     pub row: i32,
+    /// The week of the set charted last, 0 if there is none.
     pub week: i32,
+    /// How many of `sets` are in use, 0 to 4.
     pub held: i32,
+    /// The newest sets, newest first.
     pub sets: [HeldSet; 4],
 }
 
+/// An answer without values.
 #[repr(C)]
 #[derive(Clone, Copy, Debug, Default, PartialEq, Eq, Hash)]
 pub struct Answer {
+    /// 1, or 0 if refused.
     pub accepted: u32,
+    /// The refusal's number, 0 if accepted.
     pub number: u32,
 }
 
+/// The answer to a reading.
 #[repr(C)]
 #[derive(Clone, Copy, Debug, Default, PartialEq, Eq, Hash)]
 pub struct Value {
+    /// 1, or 0 if refused.
     pub accepted: u32,
+    /// The refusal's number, 0 if accepted.
     pub number: u32,
+    /// Hundredths of a percent, 0 to 10000.
     pub hundredths: u32,
 }
 
-/// S, N, the line's phase after the sheet ([`OPEN`] or [`CHECK_DUE`]) and the change of its intercept.
+/// The answer to a sheet.
 #[repr(C)]
 #[derive(Clone, Copy, Debug, Default, PartialEq, Eq, Hash)]
 pub struct Outcome {
+    /// 1, or 0 if refused.
     pub accepted: u32,
+    /// The refusal's number, 0 if accepted.
     pub number: u32,
+    /// S: the sum of the kept samples' deviations, hundredths of a percent.
     pub sum: i32,
+    /// N: twice the number of samples kept, 0 if none was.
     pub count: u32,
+    /// Of the line after the sheet: [`OPEN`] or [`CHECK_DUE`].
     pub phase: u32,
+    /// Of the line's intercept, hundredths of a percent, 0 if none.
     pub change: i32,
 }
 
-/// The day of the line's newest set, intercept (for wet gluten the derived one) and B in hundredths,
-/// two figures in tenths.
+/// The answer to a market test.
 #[repr(C)]
 #[derive(Clone, Copy, Debug, Default, PartialEq, Eq, Hash)]
 pub struct Certificate {
+    /// 1, or 0 if refused.
     pub accepted: u32,
+    /// The refusal's number, 0 if accepted.
     pub number: u32,
+    /// The day of the line's newest sheet.
     pub day: u32,
+    /// The line's intercept, or the one derived from it for wet gluten, hundredths of a percent.
     pub intercept: i32,
+    /// The moisture basis B, hundredths of a percent.
     pub basis: i32,
+    /// The reading with its intercept, tenths of a percent.
     pub figure: u32,
+    /// The same at B, tenths of a percent.
     pub converted: u32,
 }
 
-/// The fields of the output line and its length.
+/// The answer to a chart's set: the fields of the output line and its length.
 #[repr(C)]
 #[derive(Clone, Copy, Debug, Default, PartialEq, Eq, Hash)]
 pub struct Charted {
+    /// 1, or 0 if refused.
     pub accepted: u32,
+    /// The refusal's number, 0 if accepted.
     pub number: u32,
+    /// The week of the set.
     pub week: u32,
+    /// Pairs.
     pub count: u32,
+    /// The plotted average, hundredths of a percent.
     pub plot: i32,
+    /// The largest minus the smallest difference, hundredths of a percent.
     pub range: u32,
+    /// 1 or 0: the plot is at or beyond the absolute limit.
     pub al: u32,
+    /// 1 or 0: the plot and the one before are at or beyond the tolerance limit, on one side.
     pub tl: u32,
+    /// 1 or 0: this and three of the previous four plots make a run.
     pub run: u32,
+    /// 1 or 0: the range is at or above its absolute limit.
     pub ral: u32,
+    /// 1 or 0: the range and the one before are at or above their tolerance limit.
     pub rtl: u32,
+    /// Bytes written, the line feed included.
     pub length: u32,
 }
 
-/// The text line refused and the length written.
+/// The answer to a text.
 #[repr(C)]
 #[derive(Clone, Copy, Debug, Default, PartialEq, Eq, Hash)]
 pub struct Written {
+    /// 1, or 0 if refused.
     pub accepted: u32,
+    /// The refusal's number, 0 if accepted.
     pub number: u32,
+    /// The text line that is refused, 1 the names line; 0 if accepted or no line is meant.
     pub line: u32,
+    /// Bytes written.
     pub length: u32,
 }
 
-/// A day of the calendar.
+/// The answer that is a day of the calendar.
 #[repr(C)]
 #[derive(Clone, Copy, Debug, Default, PartialEq, Eq, Hash)]
 pub struct Day {
+    /// 1, or 0 if refused.
     pub accepted: u32,
+    /// The refusal's number, 0 if accepted.
     pub number: u32,
+    /// 0 to 99999.
     pub day: u32,
 }
 
-/// A date: year, month, day of the month.
+/// The answer that is a date.
 #[repr(C)]
 #[derive(Clone, Copy, Debug, Default, PartialEq, Eq, Hash)]
 pub struct Date {
+    /// 1, or 0 if refused.
     pub accepted: u32,
+    /// The refusal's number, 0 if accepted.
     pub number: u32,
+    /// 2000 to 2273.
     pub year: u32,
+    /// 1 to 12.
     pub month: u32,
+    /// The day of the month, from 1.
     pub day: u32,
 }
 
-/// A weekday, 1 (Monday) to 7 (Sunday).
+/// The answer that is a weekday.
 #[repr(C)]
 #[derive(Clone, Copy, Debug, Default, PartialEq, Eq, Hash)]
 pub struct Weekday {
+    /// 1, or 0 if refused.
     pub accepted: u32,
+    /// The refusal's number, 0 if accepted.
     pub number: u32,
+    /// 1 (Monday) to 7 (Sunday).
     pub weekday: u32,
 }
 
-/// A lot's basis in hundredths, lowest, highest and mean figure in tenths, tonnes, and the sum of figure
-/// times tonnes.
+/// The answer to a ship lot.
 #[repr(C)]
 #[derive(Clone, Copy, Debug, Default, PartialEq, Eq, Hash)]
 pub struct Lot {
+    /// 1, or 0 if refused.
     pub accepted: u32,
+    /// The refusal's number, 0 if accepted.
     pub number: u32,
+    /// The moisture basis of every record, hundredths of a percent.
     pub basis: i32,
+    /// The lowest figure, tenths of a percent.
     pub lowest: u32,
+    /// The highest figure, tenths of a percent.
     pub highest: u32,
+    /// The mean figure, tenths of a percent, rounded once, an exact half going up.
     pub mean: u32,
+    /// The tonnes of all records.
     pub tonnes: u64,
+    /// The sum of figure times tonnes.
     pub weighted_sum: u64,
 }
 
@@ -318,18 +396,49 @@ impl Chart {
     }
 }
 
-unsafe extern "C" {
-    /// Any float may be asked.
+/// Declares the calls that end in the interface's number, each linked by its name, `_` and that number.
+macro_rules! calls {
+    (
+        $(#[$about:meta])*
+        pub const INTERFACE: u32 = $interface:literal;
+        $(
+            $(#[$attribute:meta])*
+            pub $safety:ident fn $name:ident($($argument:ident: $type:ty),* $(,)?) -> $answer:ty;
+        )+
+    ) => {
+        $(#[$about])*
+        pub const INTERFACE: u32 = $interface;
+
+        unsafe extern "C" {
+            $(
+                $(#[$attribute])*
+                #[link_name = concat!(stringify!($name), "_", $interface)]
+                pub $safety fn $name($($argument: $type),*) -> $answer;
+            )+
+        }
+    };
+}
+
+calls! {
+    /// The number of the C interface. Changes whenever a struct that crosses or the signature of a call does,
+    /// of states and of answers alike. It is part of the names that the calls are linked by.
+    pub const INTERFACE: u32 = 1;
+
+    /// The whole hundredth nearest to an analyser's value in percent. Any float may be asked.
     pub safe fn grain_reading(percent: f32) -> Value;
 
+    /// A fresh station of a product row.
+    ///
     /// # Safety
     /// `station` may be written to.
-    pub fn grain_open(station: *mut Station, row: u64) -> Answer;
+    pub unsafe fn grain_open(station: *mut Station, row: u64) -> Answer;
 
+    /// Enters a reference sheet for a line.
+    ///
     /// # Safety
     /// `station` may be read and written, `numbers` has `numbers_len` numbers (or is null and has
     /// none), and the two don't overlap.
-    pub fn grain_sheet(
+    pub unsafe fn grain_sheet(
         station: *mut Station,
         day: u32,
         line: u64,
@@ -337,13 +446,17 @@ unsafe extern "C" {
         numbers_len: usize,
     ) -> Outcome;
 
+    /// Enters a repair or a new slope.
+    ///
     /// # Safety
     /// `station` may be read and written.
-    pub fn grain_repair(station: *mut Station, day: u32) -> Answer;
+    pub unsafe fn grain_repair(station: *mut Station, day: u32) -> Answer;
 
+    /// Tests market grain on a line.
+    ///
     /// # Safety
     /// `station` may be read and written.
-    pub fn grain_market(
+    pub unsafe fn grain_market(
         station: *mut Station,
         day: u32,
         line: u64,
@@ -356,14 +469,24 @@ unsafe extern "C" {
         basis: i32,
     ) -> Certificate;
 
+    /// Whether a station is sound: accepted, or refused by 0, as every call on it would be.
+    ///
+    /// # Safety
+    /// `station` may be read.
+    pub unsafe fn grain_station_check(station: *const Station) -> Answer;
+
+    /// A fresh chart of a chart row.
+    ///
     /// # Safety
     /// `chart` may be written to.
-    pub fn grain_chart_open(chart: *mut Chart, row: u64) -> Answer;
+    pub unsafe fn grain_chart_open(chart: *mut Chart, row: u64) -> Answer;
 
+    /// Charts a week's set.
+    ///
     /// # Safety
     /// `chart` may be read and written, `numbers` and `line` have their lengths (or are null and
     /// have none), and the three don't overlap.
-    pub fn grain_chart_set(
+    pub unsafe fn grain_chart_set(
         chart: *mut Chart,
         week: u32,
         numbers: *const i32,
@@ -372,38 +495,72 @@ unsafe extern "C" {
         line_len: usize,
     ) -> Charted;
 
+    /// Charts a whole text.
+    ///
     /// # Safety
     /// `text` and `out` have their lengths (or are null and have none) and don't overlap.
-    pub fn grain_chart_text(
+    pub unsafe fn grain_chart_text(
         text: *const u8,
         text_len: usize,
         out: *mut u8,
         out_len: usize,
     ) -> Written;
 
-    /// Any numbers may be asked.
+    /// Whether a chart is sound: accepted, or refused by 0, as every call on it would be.
+    ///
+    /// # Safety
+    /// `chart` may be read.
+    pub unsafe fn grain_chart_check(chart: *const Chart) -> Answer;
+
+    /// The day that has this date. Any numbers may be asked.
     pub safe fn grain_day_from_date(year: u32, month: u32, day: u32) -> Day;
 
-    /// Any number may be asked.
+    /// The date of a day. Any number may be asked.
     pub safe fn grain_date_from_day(day: u32) -> Date;
 
-    /// Any number may be asked.
+    /// The weekday of a day. Any number may be asked.
     pub safe fn grain_weekday_of_day(day: u32) -> Weekday;
 
+    /// The day that is so many working days after a day.
+    ///
     /// # Safety
     /// `holidays` has `holidays_len` numbers (or is null and has none).
-    pub fn grain_working_day(
+    pub unsafe fn grain_working_day(
         day: u32,
         count: u32,
         holidays: *const i32,
         holidays_len: usize,
     ) -> Day;
 
+    /// The day by which monitoring results are due.
+    ///
     /// # Safety
     /// `holidays` has `holidays_len` numbers (or is null and has none).
-    pub fn grain_results_due(day: u32, holidays: *const i32, holidays_len: usize) -> Day;
+    pub unsafe fn grain_results_due(
+        day: u32,
+        holidays: *const i32,
+        holidays_len: usize,
+    ) -> Day;
 
+    /// States a ship lot from its sublots' records.
+    ///
     /// # Safety
     /// `records` has `count` records (or is null and has none).
-    pub fn grain_ship_lot(records: *const Sublot, count: usize) -> Lot;
+    pub unsafe fn grain_ship_lot(records: *const Sublot, count: usize) -> Lot;
+
+    /// The message of a refusal's number: a C string that stands as long as the program runs. Any number may
+    /// be asked.
+    pub safe fn grain_message(number: u32) -> *const c_char;
+}
+
+// These three keep their signatures in every interface, so that their names need no number.
+unsafe extern "C" {
+    /// The library's interface: [`INTERFACE`] where this crate links.
+    pub safe fn grain_interface() -> u32;
+
+    /// The library's layout of stored states, to be compared with [`LAYOUT`].
+    pub safe fn grain_layout() -> u32;
+
+    /// The library's version: a C string that stands as long as the program runs.
+    pub safe fn grain_version() -> *const c_char;
 }

@@ -1,4 +1,5 @@
-//! Stations stored in layouts 1 to 3, and how they are carried over.
+//! Stations stored in layouts 1 to 3, and how they are carried over. For users docs/MIGRATION.md says it, of charts
+//! too.
 //!
 //! They have 47 places: row, day, then for each line intercept, phase, how many past sets are held, and
 //! four past sets of day, S and N, newest first, whose S may be 0.

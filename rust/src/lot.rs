@@ -45,6 +45,10 @@ pub struct LotStatement {
 /// records' order makes no difference, nor does it whether a sublot stands in one record or in several
 /// of its figure and basis, as long as there are no more than 500 and none has more than 1000000 tonnes.
 ///
+/// # Errors
+/// [`Refusal::LotSize`], then [`Refusal::Sublot`], then [`Refusal::UnlikeBasis`].
+///
+/// # Examples
 /// ```
 /// use grain::{Sublot, ship_lot};
 ///

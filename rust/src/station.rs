@@ -36,8 +36,11 @@ pub struct Station {
 /// itself ([`LinePhase`]) tells why the check is due.
 #[derive(Clone, Copy, Debug, PartialEq, Eq, Hash)]
 pub enum Phase {
+    /// No sheet of it was accepted yet, or the line was open and then repaired.
     New,
+    /// The newest sheet met every average due.
     Open,
+    /// The newest sheet adjusted the line or shut it: the next one is the check.
     CheckDue,
 }
 
@@ -59,6 +62,7 @@ pub enum LinePhase {
 #[repr(C)]
 #[derive(Clone, Copy, Debug, Default, PartialEq, Eq, Hash)]
 pub struct PastSet {
+    /// The sheet's day.
     pub day: i32,
     /// S, the sum of the kept deviations, in hundredths of a percent.
     pub sum: i32,
@@ -76,8 +80,9 @@ impl PastSet {
 /// A line as the station holds it.
 #[derive(Clone, Debug, PartialEq, Eq, Hash)]
 pub struct Line {
-    /// Hundredths of a percent.
+    /// Added to every reading, hundredths of a percent, -1000 to 1000.
     pub intercept: i32,
+    /// New, open, adjusted or shut.
     pub phase: LinePhase,
     /// The newest past sets, at most two, newest first: for the tests of two and three sets, and for the
     /// day of a certificate.
@@ -103,16 +108,22 @@ pub struct Outcome {
 /// What the analyser answered, in percent.
 #[derive(Clone, Copy, Debug, PartialEq)]
 pub enum Scan {
-    /// Protein.
+    /// Protein of wheat.
     Wheat(f32),
-    /// Protein and wet gluten; only what is asked for is looked at.
+    /// Protein and wet gluten of wheat; only what is asked for is looked at.
     WheatGluten {
+        /// For line 0.
         protein: f32,
+        /// For [`Asked::Gluten`].
         gluten: f32,
     },
+    /// Protein, oil and starch of corn; only the asked line's is looked at.
     Corn {
+        /// For line 0.
         protein: f32,
+        /// For line 1.
         oil: f32,
+        /// For line 2.
         starch: f32,
     },
     /// A fault with its code.
@@ -132,7 +143,9 @@ pub enum Asked {
 /// The class of a wheat. Wet gluten is reported for the two of hard red wheat only.
 #[derive(Clone, Copy, Debug, PartialEq, Eq, Hash)]
 pub enum WheatClass {
+    /// Hard Red Winter.
     HardRedWinter,
+    /// Hard Red Spring.
     HardRedSpring,
     /// Any other: wet gluten of it is refused ([`Refusal::GlutenClass`]).
     Other,
@@ -144,9 +157,11 @@ pub enum WheatClass {
 pub enum Basis {
     /// The grain's standard basis: 1200 for wheat, 0 for corn, 1400 for wet gluten.
     Standard,
+    /// No moisture: 0.
     Dry,
+    /// Any other, 0 to 5000.
     Specified(i32),
-    /// The official moisture.
+    /// The official moisture, 0 to 5000.
     AsIs(i32),
 }
 
@@ -257,6 +272,9 @@ impl Station {
     pub const BYTES: usize = 4 + 4 * ffi::STATION;
 
     /// A fresh station of a product row.
+    ///
+    /// # Errors
+    /// [`Refusal::NoSuchRow`]: neither [`Station::WHEAT`] nor [`Station::CORN`].
     pub fn open(row: u64) -> Result<Station, Refusal> {
         let mut state = ffi::Station::default();
         // SAFETY: the station is lent for the call.
@@ -270,11 +288,14 @@ impl Station {
     }
 
     /// Takes up a station stored in layout 4. Numbers that are no sound station are taken up as well, and
-    /// refused by every call ([`Refusal::Unsound`]).
+    /// refused by every call ([`Refusal::Unsound`]); [`Station::is_sound`] tells it before.
     ///
-    /// One stored in layout 2 or 3 is carried over where it says all, else it is an error and
-    /// [`Station::from_layout_3`] takes it up ([`RestoreError::OlderSets`]). An unsound one is an error
-    /// ([`RestoreError::Unsound`]).
+    /// One stored in layout 2 or 3 is carried over where it says all.
+    ///
+    /// # Errors
+    /// Bytes of layout 2 or 3 that don't say all ([`RestoreError::OlderSets`]: [`Station::from_layout_3`] takes
+    /// them up) or are no sound station ([`RestoreError::Unsound`]); bytes of another layout or of a wrong length
+    /// ([`RestoreError::Layout`], [`RestoreError::Length`]).
     ///
     /// ```
     /// use grain::{RestoreError, Station};
@@ -306,14 +327,18 @@ impl Station {
     /// 14 days old on the station's day: then sets before the four may still count for the test of five.
     /// `older` are these sets of each line, from the laboratory's sheets since the last repair and that
     /// line's last sheet that didn't meet: newest first and without a gap. Those with S = 0 are passed over,
-    /// and no more are taken than there is room for. What is taken has to fit before the four
-    /// ([`RestoreError::WrongOlderSets`]). For a line that leaves nothing open they are not looked at.
+    /// and no more are taken than there is room for. For a line that leaves nothing open they are not looked at.
     ///
     /// Where they aren't known, an empty list will do. Then a test of five may be left out that is due, as long
     /// as the line holds fewer than four sets that aren't zero; one that isn't due is never made.
     ///
-    /// An unsound station is an error ([`RestoreError::Unsound`]). Lines that the row lacks are blank: nothing
-    /// looks at them.
+    /// Lines that the row lacks are blank: nothing looks at them. docs/MIGRATION.md says the same of every
+    /// language.
+    ///
+    /// # Errors
+    /// No sound station ([`RestoreError::Unsound`]); older sets that don't fit before the four
+    /// ([`RestoreError::WrongOlderSets`]); another layout or a wrong length ([`RestoreError::Layout`],
+    /// [`RestoreError::Length`]).
     ///
     /// ```
     /// use grain::{PastSet, Phase, RestoreError, Station};
@@ -353,8 +378,11 @@ impl Station {
     /// is looked at where the check is due, and false will do where it isn't known: sheets and certificates
     /// are the same either way, and only [`Refusal::AdjustedLine`] is told for [`Refusal::ShutLine`].
     ///
-    /// `older` are the sets before those that a line holds, as in [`Station::from_layout_3`]. An unsound
-    /// station is an error ([`RestoreError::Unsound`]); so is one with a phase 3, which layout 1 doesn't have.
+    /// `older` are the sets before those that a line holds, as in [`Station::from_layout_3`]. docs/MIGRATION.md
+    /// says the same of every language.
+    ///
+    /// # Errors
+    /// Those of [`Station::from_layout_3`]. A station with a phase 3, which layout 1 doesn't have, isn't sound.
     ///
     /// ```
     /// use grain::{Asked, Basis, LinePhase, Refusal, RestoreError, Scan, Station};
@@ -396,6 +424,30 @@ impl Station {
         Station {
             state: ffi::Station::of(&places),
         }
+    }
+
+    /// Whether the station is sound, as every station is that was opened and then changed by calls alone. One
+    /// that isn't is refused by every call ([`Refusal::Unsound`]): ask this of a station taken up from storage.
+    /// Lines that the row lacks and places beyond the sets held are not looked at.
+    ///
+    /// ```
+    /// use grain::{Refusal, Station};
+    ///
+    /// let station = Station::open(Station::WHEAT)?;
+    /// assert!(station.is_sound());
+    ///
+    /// // Line 0's intercept is stored as 10.01 percent.
+    /// let mut places = station.places();
+    /// places[2] = 1001;
+    /// let mut damaged = Station::from_places(places);
+    /// assert!(!damaged.is_sound());
+    /// assert_eq!(damaged.repair(1), Err(Refusal::Unsound));
+    /// # Ok::<(), Refusal>(())
+    /// ```
+    pub fn is_sound(&self) -> bool {
+        // SAFETY: the station is lent for the call, which only reads it.
+        let said = unsafe { ffi::grain_station_check(&self.state) };
+        answer(said.accepted, said.number).is_ok()
     }
 
     /// The station's 68 numbers: row, day, then for each line intercept, phase, how many newest sets are
@@ -440,6 +492,11 @@ impl Station {
     /// again-first, again-second) in hundredths of a percent, -1 for not measured. The samples may
     /// stand in any order: the answer and the station after it are the same.
     ///
+    /// # Errors
+    /// In this order [`Refusal::Unsound`], [`Refusal::Day`], [`Refusal::NoSuchLine`], [`Refusal::SheetLength`],
+    /// [`Refusal::SheetNumber`], [`Refusal::Third`], [`Refusal::Again`].
+    ///
+    /// # Examples
     /// ```
     /// use grain::{LinePhase, Phase, Refusal, Station};
     ///
@@ -469,8 +526,12 @@ impl Station {
     }
 
     /// A repair or new slope on this day: new and open lines become new and their past is emptied. An
-    /// adjusted line stays adjusted and a shut one shut.
+    /// adjusted line stays adjusted and a shut one shut. Intercepts stay.
     ///
+    /// # Errors
+    /// [`Refusal::Unsound`], then [`Refusal::Day`].
+    ///
+    /// # Examples
     /// ```
     /// use grain::{LinePhase, Station};
     ///
@@ -486,8 +547,15 @@ impl Station {
         answer(said.accepted, said.number)
     }
 
-    /// A market test of a line.
+    /// A market test of a line. It changes the station's day only.
     ///
+    /// # Errors
+    /// In this order [`Refusal::Unsound`], [`Refusal::Day`], [`Refusal::NoSuchLine`], [`Refusal::Scan`], for wet
+    /// gluten [`Refusal::GlutenClass`] and [`Refusal::GlutenBasis`], [`Refusal::Float`], [`Refusal::Basis`],
+    /// [`Refusal::Corrected`], of a line that isn't open [`Refusal::NewLine`], [`Refusal::AdjustedLine`] or
+    /// [`Refusal::ShutLine`], [`Refusal::SetTooOld`], [`Refusal::AtBasis`].
+    ///
+    /// # Examples
     /// ```
     /// use grain::{Asked, Basis, Refusal, Scan, Station};
     ///
@@ -588,8 +656,12 @@ fn held(count: i32, sets: &[PastSet]) -> Option<Vec<PastSet>> {
     Some(held.to_vec())
 }
 
-/// The whole hundredth of a percent nearest to an analyser's value, an exact half going up.
+/// The whole hundredth of a percent nearest to an analyser's value in percent, an exact half going up.
 ///
+/// # Errors
+/// [`Refusal::Float`]: not a number, below 0 or above 100. Minus zero is 0.
+///
+/// # Examples
 /// ```
 /// use grain::{Refusal, reading};
 ///

@@ -14,7 +14,8 @@ pub(crate) const SECOND: u32 = 2;
 /// this layout.
 pub(crate) const THIRD: u32 = 3;
 
-/// Why stored bytes are not taken up as a station or chart.
+/// Why stored bytes are not taken up as a station or chart. Other reasons may come: let a `match` have an arm
+/// for the rest.
 ///
 /// ```
 /// use grain::{RestoreError, Station};
@@ -28,29 +29,52 @@ pub(crate) const THIRD: u32 = 3;
 /// assert_eq!(error.to_string(), "stored in layout 5, which this version (layout 4) does not read");
 /// ```
 #[derive(Clone, Copy, Debug, PartialEq, Eq, Hash)]
+#[non_exhaustive]
 pub enum RestoreError {
     /// The bytes begin with the number of a layout that the call doesn't read. Each station has its call:
     /// of layout 1 [`Station::from_layout_1`](crate::Station::from_layout_1), of 2 and 3
     /// [`Station::from_bytes`](crate::Station::from_bytes) or
     /// [`Station::from_layout_3`](crate::Station::from_layout_3), of 4 `from_bytes`.
-    Layout { found: u32 },
+    Layout {
+        /// The layout's number.
+        found: u32,
+    },
     /// The bytes are a chart of this row stored in layout 1 or 2. Its sets hold sums of differences, from
     /// which no plot can be computed: open the row anew and chart the sets of the newest four weeks again,
     /// in their order.
-    ChartOfSums { found: u32, row: i32 },
+    ChartOfSums {
+        /// The layout's number.
+        found: u32,
+        /// The chart row.
+        row: i32,
+    },
     /// The bytes are too few or too many.
-    Length { found: usize, needed: usize },
+    Length {
+        /// How many bytes there are.
+        found: usize,
+        /// How many a state of this layout has.
+        needed: usize,
+    },
     /// The bytes are a station stored in layout 2 or 3, and of this line they don't say all: it holds four
     /// sets, at least one of them zero, and sets before these four may still count for the test of five.
     /// [`Station::from_layout_3`](crate::Station::from_layout_3) takes it up.
-    OlderSets { line: usize },
+    OlderSets {
+        /// 0, 1 or 2.
+        line: usize,
+    },
     /// The older sets given for this line can't stand before the four that it holds: a day is later than
     /// that of the set after it, or N or S is out of bounds.
-    WrongOlderSets { line: usize },
+    WrongOlderSets {
+        /// 0, 1 or 2.
+        line: usize,
+    },
     /// The bytes are a station stored in layout 1, 2 or 3 that the version before refuses by 0
     /// ([`Refusal::Unsound`](crate::Refusal::Unsound)). It is not carried over, as that leaves numbers out
     /// and could hide the damage.
-    Unsound { found: u32 },
+    Unsound {
+        /// The layout's number.
+        found: u32,
+    },
 }
 
 impl fmt::Display for RestoreError {

@@ -1,9 +1,12 @@
-//! The wrapper's own parts: messages, stored states, conveniences; and that the header says the same.
+//! The wrapper's own parts: messages, stored states, conveniences; and that the linked library and the header say
+//! the same.
 
 use std::collections::BTreeSet;
+use std::ffi::{CStr, c_char};
 use std::path::Path;
 use std::process::Command;
 
+use grain::ffi::{self, INTERFACE};
 use grain::{
     Asked, Basis, Chart, Date, LAST_DAY, LAYOUT, LOT_RECORDS, LinePhase, LotStatement, Outcome,
     PastSet, Phase, Refusal, RestoreError, Scan, Station, Sublot, Weekday, WheatClass, chart_text,
@@ -31,15 +34,37 @@ fn every_refusal_has_its_number_and_message() {
     }
 }
 
-/// A C program that prints the header's version, layout, last day, records of a lot, weekdays and
+/// A text of the library.
+fn text(pointer: *const c_char) -> &'static str {
+    // SAFETY: the library's texts end in a NUL and stand as long as the program runs.
+    let text = unsafe { CStr::from_ptr(pointer) };
+    text.to_str().unwrap()
+}
+
+#[test]
+fn the_linked_library_says_the_same() {
+    assert_eq!(ffi::grain_interface(), INTERFACE);
+    assert_eq!(ffi::grain_layout(), LAYOUT);
+    assert_eq!(text(ffi::grain_version()), env!("CARGO_PKG_VERSION"));
+    for refusal in Refusal::all() {
+        let message = text(ffi::grain_message(refusal.number().into()));
+        assert_eq!(message, refusal.message(), "{refusal:?}");
+    }
+    for none in [32, 33, 40, 256, u32::MAX] {
+        let message = text(ffi::grain_message(none));
+        assert_eq!(message, "there is no refusal with this number", "{none}");
+    }
+}
+
+/// A C program that prints the header's version, interface, layout, last day, records of a lot, weekdays and
 /// messages.
 const SAYS: &str = r#"
 #include "grain.h"
 #include <stdio.h>
 int main(void)
 {
-    printf("%s\n%d\n%d\n", GRAIN_VERSION, GRAIN_LAYOUT, GRAIN_LAST_DAY);
-    printf("%d\n", GRAIN_LOT_RECORDS);
+    printf("%s\n%d\n%d\n", GRAIN_VERSION, GRAIN_INTERFACE, GRAIN_LAYOUT);
+    printf("%d\n%d\n", GRAIN_LAST_DAY, GRAIN_LOT_RECORDS);
     printf("%d %d %d ", GRAIN_MONDAY, GRAIN_TUESDAY, GRAIN_WEDNESDAY);
     printf("%d %d %d %d\n", GRAIN_THURSDAY, GRAIN_FRIDAY, GRAIN_SATURDAY, GRAIN_SUNDAY);
     for (uint32_t number = 0; number < 33; number++)
@@ -66,6 +91,7 @@ fn the_header_says_the_same() {
     let said = String::from_utf8(said.stdout).unwrap();
     let mut lines = said.lines();
     assert_eq!(lines.next(), Some(env!("CARGO_PKG_VERSION")));
+    assert_eq!(lines.next(), Some(INTERFACE.to_string().as_str()));
     assert_eq!(lines.next(), Some(LAYOUT.to_string().as_str()));
     assert_eq!(lines.next(), Some(LAST_DAY.to_string().as_str()));
     assert_eq!(lines.next(), Some(LOT_RECORDS.to_string().as_str()));
@@ -345,14 +371,29 @@ fn the_newest_four_weeks_make_the_chart() {
     }
 }
 
-/// Damaged numbers are restored as they are, and every call refuses them.
+/// Damaged numbers are restored as they are. The check tells it, and every call refuses them.
 #[test]
 fn a_damaged_station_is_refused() {
     let mut bytes = Station::open(Station::WHEAT).unwrap().to_bytes();
+    assert!(Station::from_bytes(&bytes).unwrap().is_sound());
     bytes[4 + 4 * 3] = 4; // line 0's phase
     let mut station = Station::from_bytes(&bytes).unwrap();
+    assert!(!station.is_sound());
     assert_eq!(station.repair(1), Err(Refusal::Unsound));
     assert_eq!(station.to_bytes(), bytes);
+}
+
+#[test]
+fn a_damaged_chart_is_refused() {
+    let mut chart = with_weeks(&[(26, WEEKS[0])]);
+    assert!(chart.is_sound());
+    let mut bytes = chart.to_bytes();
+    bytes[4 + 4 * 3] = 6; // the set's pairs
+    chart = Chart::from_bytes(&bytes).unwrap();
+    assert!(!chart.is_sound());
+    let refused = chart.set(27, WEEKS[1], &mut [0; Chart::LINE]);
+    assert_eq!(refused, Err(Refusal::Unsound));
+    assert_eq!(chart.to_bytes(), bytes);
 }
 
 #[test]
@@ -539,6 +580,63 @@ fn days_have_weekdays_and_dates() {
         assert_eq!(day_from_date(date), Ok(day));
         before = date;
     }
+}
+
+/// What is printed of a date is read again, for every day.
+#[test]
+fn dates_are_printed_and_read() {
+    for day in 0..=LAST_DAY {
+        let date = date_from_day(day).unwrap();
+        let printed = date.to_string();
+        assert_eq!(printed.len(), 10);
+        assert_eq!(printed.parse(), Ok(date));
+    }
+    assert_eq!(date_from_day(0).unwrap().to_string(), "2000-01-01");
+    assert_eq!(date_from_day(LAST_DAY).unwrap().to_string(), "2273-10-15");
+    // The form alone is looked at.
+    let (year, month, day) = (0, 99, 0);
+    assert_eq!("0000-99-00".parse(), Ok(Date { year, month, day }));
+    let columns = format!("{:>12}|{:<12}|", date_from_day(0).unwrap(), Weekday::Friday);
+    assert_eq!(columns, "  2000-01-01|Friday      |");
+}
+
+#[test]
+fn what_is_no_date() {
+    for text in [
+        "",
+        "2026-11-7",
+        "2026-1-27",
+        "226-11-27",
+        "02026-11-27",
+        "2026-11-027",
+        "2026-11-27 ",
+        " 2026-11-27",
+        "2026-11-27T00:00",
+        "2026/11/27",
+        "2026-11_27",
+        "20261127",
+        "27.11.2026",
+        "-026-11-27",
+        "+026-11-27",
+        "2026-+1-27",
+        "2026-11- 7",
+        "2026-1a-27",
+        "202x-11-27",
+        "２026-11-7",
+        "2026-11-2٧",
+        "2026\u{2010}11-7",
+    ] {
+        assert!(text.parse::<Date>().is_err(), "{text:?}");
+    }
+}
+
+#[test]
+fn weekdays_have_names() {
+    let names = WEEK.map(|weekday| weekday.to_string()).join(" ");
+    assert_eq!(
+        names,
+        "Monday Tuesday Wednesday Thursday Friday Saturday Sunday"
+    );
 }
 
 #[test]

@@ -120,6 +120,19 @@ pub fn rules(place: usize, by: i64) -> Option<(String, Rules)> {
     Some((name, rules))
 }
 
+/// The rules with the number of this name off by `by`.
+pub fn rules_of(name: &str, by: i64) -> Rules {
+    let mut rules = Rules::in_force();
+    let mut numbers = numbers(&mut rules);
+    let (_, number) = numbers
+        .iter_mut()
+        .find(|(other, _)| other == name)
+        .expect(name);
+    **number += by;
+    drop(numbers);
+    rules
+}
+
 /// What a wrong model does.
 #[derive(Clone, Copy, Debug, PartialEq, Eq)]
 pub enum Wrong {
@@ -656,7 +669,7 @@ impl Wrong {
     }
 
     /// The rules by which a chart is sound.
-    fn chart_rules(self, rules: &Rules, chart: &Chart) -> Rules {
+    pub fn chart_rules(self, rules: &Rules, chart: &Chart) -> Rules {
         let mut rules = rules.clone();
         let within = |set: &ChartSet| {
             (1..=rules.pairs).contains(&set.count) && set.plot.abs() <= rules.chart_plot * set.count

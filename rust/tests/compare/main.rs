@@ -21,6 +21,7 @@ mod orders;
 mod plots;
 mod readings;
 mod rng;
+mod sound;
 mod stations;
 mod texts;
 mod unsound;
@@ -43,6 +44,8 @@ struct Extent {
     texts: usize,
     long_texts: usize,
     handed_in: usize,
+    /// Each of a station and of a chart.
+    checks: usize,
     random_floats: usize,
     float_step: usize,
     calendar_step: usize,
@@ -62,6 +65,7 @@ const FULL: Extent = Extent {
     texts: 30_000,
     long_texts: 300,
     handed_in: 8_000,
+    checks: 1_000_000,
     random_floats: 100,
     float_step: 1,
     calendar_step: 1,
@@ -80,6 +84,7 @@ const SMALL: Extent = Extent {
     texts: 400,
     long_texts: 2,
     handed_in: 600,
+    checks: 5_000,
     random_floats: 1,
     float_step: 100,
     calendar_step: 97,
@@ -117,6 +122,9 @@ fn compare(trial: &mut Trial, extent: &Extent) -> Result<(), Difference> {
     for round in 0..extent.handed_in {
         unsound::one_place(trial, round % encode::STATION)?;
         unsound::one_chart_place(trial, round % encode::CHART)?;
+    }
+    for _ in 0..extent.checks {
+        sound::single(trial)?;
     }
     for _ in 0..extent.texts {
         texts::single(trial)?;
@@ -213,6 +221,44 @@ fn a_damaged_model_is_caught() {
     say(&format!("damaged models caught: {caught}"));
     assert!(missed.is_empty(), "not noticed: {missed:?}");
     assert!(compare(&mut Trial::new(Rules::in_force(), SEED), &SMALL).is_ok());
+}
+
+/// What the rules say of sound stations and charts.
+const SOUNDNESS: [&str; 9] = [
+    "wheat samples",
+    "corn samples",
+    "last day",
+    "intercept bound",
+    "set average bound",
+    "last week",
+    "pairs",
+    "chart plot bound",
+    "chart range bound",
+];
+
+/// The checks alone notice each number of these rules being one too high or too low, and every wrong number 0.
+#[test]
+fn damaged_soundness_is_caught() {
+    let mut models = Vec::new();
+    for name in SOUNDNESS {
+        for by in [1, -1] {
+            models.push((format!("{name} by {by}"), damaged::rules_of(name, by), None));
+        }
+    }
+    let wrong = damaged::WRONG
+        .into_iter()
+        .filter(|wrong| wrong.is_of_soundness());
+    models.extend(wrong.map(|wrong| (format!("{wrong:?}"), wrong.rules(), Some(wrong))));
+    assert_eq!(models.len(), 2 * SOUNDNESS.len() + 15);
+    let checked = |rules, wrong| {
+        let mut trial = Trial::new(rules, SEED);
+        trial.wrong = wrong;
+        (0..100_000).try_for_each(|_| sound::single(&mut trial))
+    };
+    for (name, rules, wrong) in models {
+        assert!(checked(rules, wrong).is_err(), "not noticed: {name}");
+    }
+    assert!(checked(Rules::in_force(), None).is_ok());
 }
 
 /// Every float there is, by the C interface. Takes minutes: `cargo test --release -- --ignored`.

@@ -14,12 +14,14 @@ const CALLS: &[(&str, &[usize])] = &[
     ("open", &[1]),
     ("sheet", &[0, 2, 3, 4, 5, 6, 7]),
     ("repair", &[0, 2]),
+    ("station check", &[0]),
     (
         "market",
         &[0, 2, 3, 8, 23, 24, 9, 10, 11, 12, 25, 26, 13, 14],
     ),
     ("chart open", &[1]),
     ("chart set", &[0, 19, 20, 21, 22]),
+    ("chart check", &[0]),
     ("chart text", &[15, 16, 17, 18, 19, 21, 22]),
     ("day from date", &[27]),
     ("date from day", &[27]),
@@ -41,6 +43,21 @@ struct Count {
 
 /// The branches, each of which must be met. The generators and comparisons name them.
 const BRANCHES: &[&str] = &[
+    // Checks of stations and charts.
+    "check: a sound station",
+    "check: a station changed in one place, sound",
+    "check: a station changed in one place, unsound",
+    "check: a station changed in several places, sound",
+    "check: a station changed in several places, unsound",
+    "check: any numbers that are a sound station",
+    "check: any numbers that are no sound station",
+    "check: a sound chart",
+    "check: a chart changed in one place, sound",
+    "check: a chart changed in one place, unsound",
+    "check: a chart changed in several places, sound",
+    "check: a chart changed in several places, unsound",
+    "check: any numbers that are a sound chart",
+    "check: any numbers that are no sound chart",
     // Readings.
     "reading: an exact half goes up",
     "reading: minus zero",

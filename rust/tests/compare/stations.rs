@@ -271,7 +271,7 @@ impl Trial {
     }
 
     /// The station that the model judges a call by.
-    fn seen(&self, before: &StationPlaces) -> model::Station {
+    pub fn seen(&self, before: &StationPlaces) -> model::Station {
         let station = encode::station(before);
         match self.wrong {
             Some(wrong) => wrong.seen(&self.rules, station),

@@ -12,7 +12,7 @@ use crate::rng::Rng;
 use crate::stations::{Subject, Trial};
 
 /// Numbers that stand beside some edge.
-const EDGES: [i32; 37] = [
+pub const EDGES: [i32; 37] = [
     i32::MIN,
     i32::MIN + 1,
     -132_001,
@@ -439,8 +439,9 @@ fn wrong_station(rng: &mut Rng, station: &mut Station) -> &'static str {
     name
 }
 
-/// A call on a station that isn't kept as a book.
+/// The check of a station that isn't kept as a book, and a call on it.
 fn on_station(trial: &mut Trial, places: StationPlaces) -> Result<(), Difference> {
+    trial.station_check(&places)?;
     lists::single(trial, &mut Subject::handed_in(places))
 }
 
@@ -624,17 +625,22 @@ pub fn one_place(trial: &mut Trial, place: usize) -> Result<(), Difference> {
     Ok(())
 }
 
-/// Any numbers.
-pub fn any_station(trial: &mut Trial) -> Result<(), Difference> {
-    let kind = trial.rng.below(3);
-    let mut places: StationPlaces = [0; encode::STATION];
-    for place in &mut places {
+/// Small numbers, numbers beside some edge, or any.
+pub fn any_numbers(rng: &mut Rng, places: &mut [i32]) {
+    let kind = rng.below(3);
+    for place in places {
         *place = match kind {
-            0 => trial.rng.pick(&[0, 0, 1, 1, 2, 3, 4, -1]),
-            1 => trial.rng.pick(&EDGES),
-            _ => trial.rng.bits() as i32,
+            0 => rng.pick(&[0, 0, 1, 1, 2, 3, 4, -1]),
+            1 => rng.pick(&EDGES),
+            _ => rng.bits() as i32,
         };
     }
+}
+
+/// Any numbers.
+pub fn any_station(trial: &mut Trial) -> Result<(), Difference> {
+    let mut places: StationPlaces = [0; encode::STATION];
+    any_numbers(&mut trial.rng, &mut places);
     trial.met.branch("station: any numbers");
     on_station(trial, places)
 }
@@ -642,7 +648,7 @@ pub fn any_station(trial: &mut Trial) -> Result<(), Difference> {
 // Charts.
 
 /// A sound chart with two to four sets.
-fn sound_chart(rng: &mut Rng) -> Chart {
+pub fn sound_chart(rng: &mut Rng) -> Chart {
     let mut chart = Chart::fresh(rng.range(0, 3));
     chart.last_week = rng.pick(&[0, 1, 26, 26, 9998, 9999]);
     chart.held = rng.range(0, 4);
@@ -660,8 +666,9 @@ fn sound_chart(rng: &mut Rng) -> Chart {
     chart
 }
 
-/// A set on a chart that wasn't opened here.
+/// The check of a chart that wasn't opened here, and a set on it.
 fn on_chart(trial: &mut Trial, places: ChartPlaces) -> Result<(), Difference> {
+    trial.chart_check(&places)?;
     charts::single(trial, &mut charts::Subject::handed_in(places))
 }
 
@@ -787,15 +794,8 @@ pub fn one_chart_place(trial: &mut Trial, place: usize) -> Result<(), Difference
 
 /// Any numbers.
 pub fn any_chart(trial: &mut Trial) -> Result<(), Difference> {
-    let kind = trial.rng.below(3);
     let mut places: ChartPlaces = [0; encode::CHART];
-    for place in &mut places {
-        *place = match kind {
-            0 => trial.rng.pick(&[0, 1, 1, 2, 3, 4, 5, -1]),
-            1 => trial.rng.pick(&EDGES),
-            _ => trial.rng.bits() as i32,
-        };
-    }
+    any_numbers(&mut trial.rng, &mut places);
     trial.met.branch("chart: any numbers");
     on_chart(trial, places)
 }
