@@ -1,6 +1,7 @@
 #!/usr/bin/env python3
-"""Sets the must-fail edits' rows of docs/SPECIFICATION.md by a log of `rt must-fail` or of the gate: the place of each edit's first error. Rows that
-are missing are put in, with the edit's first line for what it does; those of edits that are gone are taken out. Edits that the log lacks keep their place.
+"""Sets the must-fail edits' rows of docs/EVIDENCE.md by a log of `rt must-fail` or of the gate: the place of each
+edit's first error. Rows that are missing are put in, with the edit's first line for what it does; those of edits that
+are gone are taken out. Edits that the log lacks keep their place.
 
     rt must-fail > LOG 2>&1; python3 tools/edit_rows.py LOG
 """
@@ -9,7 +10,7 @@ import re
 import sys
 
 ROOT = pathlib.Path(__file__).resolve().parent.parent
-PAGE = ROOT / "docs/SPECIFICATION.md"
+PAGE = ROOT / "docs/EVIDENCE.md"
 REFUSED = re.compile(r"^rt: must-fail (\w+)/(\w+)\.edit: refused, as it must be: (?:error: |note: )?(\S+?:\d+:\d+):")
 ROW = re.compile(r"^\| ([a-z_]+/[a-z0-9_]+) \| (.*) \| (\S+:\d+:\d+) \|$")
 
