@@ -3,15 +3,16 @@ use clap::{Arg, ArgAction, Command};
 use std::alloc::{AllocError, Global};
 
 const ABOUT: &str =
-    "Charts a wheat protein monitoring file: one line for each week, with the limits that it violates.";
+    "Charts weekly wheat protein monitoring: a line for each week, with the limits it violates.";
 
 const STATUSES: &str =
-    "Without FILE it is a filter: standard input to standard output, where a refused file prints one line, \
-\"refused\", its number and the text line, and ends with 0, and 1 says that reading or writing failed.
+    "Without FILE it is a filter, from standard input to standard output. A refused text
+prints one line: \"refused\", its number and the text line. The status is 0 then too,
+and 1 where reading or writing failed.
 
-With FILE it prints the same, and ends with
+With FILE it prints the same, and the status is
   0  charted
-  1  the file is refused; standard error says why
+  1  refused; standard error says why
   2  the command line is wrong
   3  the file could not be read, or the output not written";
 
