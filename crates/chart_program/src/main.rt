@@ -1,5 +1,6 @@
 // The chart program: a chart text from standard input or a file; the wheat chart's output, or the refusal's line, to
-// standard output. Called with a file it also says on standard error why a text is refused.
+// standard output. Called with a file it also says on standard error why a text is refused. Where standard error can't
+// be written, the exit status alone is left to say it.
 
 #![tactic(auto)]
 
@@ -25,28 +26,25 @@ const FAILED: u8 = 3;
 const FILTER_FAILED: u8 = 1;
 
 // Charts what an input holds, by its name: what was charted, or nothing and why on standard error.
-fn chart<R: Read>(
-    rt: &HostRuntime,
-    alloc: Global,
-    input: &mut R,
-    name: &str,
-) -> io::Result<Option<Charted>> {
+fn chart<R: Read>(rt: &HostRuntime, alloc: Global, input: &mut R, name: &str) -> Option<Charted> {
     match text_stream::chart(alloc, input, &mut rt.stdout()) {
-        Ok(charted) => Ok(Some(charted)),
+        Ok(charted) => Some(charted),
         Err(StreamError::NotRead(error)) => {
-            eprintln!(rt; "{NAME}: {name} could not be read: {error}")?;
-            Ok(None)
+            let _said = eprintln!(rt; "{NAME}: {name} could not be read: {error}");
+            None
         }
         Err(StreamError::NotWritten(error)) => {
-            eprintln!(rt; "{NAME}: the output could not be written: {error}")?;
-            Ok(None)
+            let _said = eprintln!(rt; "{NAME}: the output could not be written: {error}");
+            None
         }
     }
 }
 
-fn filter(rt: &HostRuntime, alloc: Global) -> io::Result<u8> {
-    let charted = chart(rt, alloc, &mut rt.stdin(), "standard input")?;
-    Ok(if charted.is_some() { 0 } else { FILTER_FAILED })
+fn filter(rt: &HostRuntime, alloc: Global) -> u8 {
+    match chart(rt, alloc, &mut rt.stdin(), "standard input") {
+        Some(_) => 0,
+        None => FILTER_FAILED,
+    }
 }
 
 // Says why a text is refused: the status.
@@ -55,7 +53,7 @@ fn tell(rt: &HostRuntime, alloc: Global, name: &str, charted: &Charted) -> io::R
         return Ok(0);
     };
     let sentence = text_fault::sentence(alloc, &charted.text, refused)?;
-    eprintln!(rt; "{NAME}: {name}: {sentence}")?;
+    let _said = eprintln!(rt; "{NAME}: {name}: {sentence}");
     Ok(REFUSED)
 }
 
@@ -65,7 +63,7 @@ fn chart_named<R: Read>(
     input: &mut R,
     name: &str,
 ) -> io::Result<u8> {
-    match chart(rt, alloc, input, name)? {
+    match chart(rt, alloc, input, name) {
         Some(charted) => tell(rt, alloc, name, &charted),
         None => Ok(FAILED),
     }
@@ -78,7 +76,7 @@ fn chart_file(rt: &HostRuntime, alloc: Global, file: &str) -> io::Result<u8> {
     match fs::open(rt, file) {
         Ok(mut input) => chart_named(rt, alloc, &mut input, file),
         Err(error) => {
-            eprintln!(rt; "{NAME}: {file} could not be opened: {error}")?;
+            let _said = eprintln!(rt; "{NAME}: {file} could not be opened: {error}");
             Ok(FAILED)
         }
     }
@@ -91,7 +89,7 @@ fn run(rt: &HostRuntime) -> io::Result<u8> {
     match command.try_get_matches_from(words.as_slice()) {
         Ok(matches) => match matches.get_str("file") {
             Some(file) => chart_file(rt, alloc, file),
-            None => filter(rt, alloc),
+            None => Ok(filter(rt, alloc)),
         },
         Err(error) => {
             error.print(rt)?;
@@ -104,8 +102,7 @@ fn main(rt: HostRuntime) -> ExitCode {
     ExitCode::from(match run(&rt) {
         Ok(status) => status,
         Err(error) => {
-            // where standard error is what failed, the status alone is left to say so
-            let _told = eprintln!(rt; "{NAME}: {error}");
+            let _said = eprintln!(rt; "{NAME}: {error}");
             FAILED
         }
     })
