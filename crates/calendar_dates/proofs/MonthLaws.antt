@@ -48,6 +48,9 @@ month_small leap m h = omega arith
 pub lacks_little : (leap : Bool) (m : ℕ) → lacking leap m ≤ 2
 lacks_little leap m = grind (arith, nat_tests, small leap)
 
+pub lacks_fit : (leap : Bool) (m : ℕ) → 1 ≤ m → lacking leap m ≤ (367 * m - 362) / 12
+lacks_fit leap m h = grind (arith, nat_tests, small leap)
+
 pub year_small : (leap : Bool) → month_start leap 13 ≤ 366
 year_small leap = omega (arith, (march_start leap).1, small leap, least leap)
   where

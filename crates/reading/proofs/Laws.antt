@@ -33,6 +33,15 @@ answered x r h = go (in_range x) h
     go true e = (tt, cc)
     go false e = let z : true ≡ false = cc in absurd (true≢false z)
 
+-- a reading that is refused isn't in the range
+pub refused : (x : Float) → answer_of x ≡ None → T (not (in_range x))
+unfolding answer_of
+refused x h = go (in_range x) h
+  where
+    go : (b : Bool) → cond b (Some (reading_of x)) None ≡ None → T (not b)
+    go true e = let z : true ≡ false = cc in absurd (true≢false z)
+    go false e = tt
+
 said_by_cases : (x : Float) → said_by (answer_of x) ≡ cond (in_range x) (hundredths (reading_of x)) (refused_by 9)
 unfolding answer_of
 said_by_cases x = go (in_range x)

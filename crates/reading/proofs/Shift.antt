@@ -1,10 +1,10 @@
 -- A shift and the bit below it round to the nearest, an exact half going up.
 use mathlib.Core.Path.{◌≡◌, sym, ap, ◌∙◌}
 use Prim.Native.Nat.{ℕ, suc, ◌+◌, ◌-◌, ◌*◌, ◌/◌, ◌%◌, ◌^◌, ◌≤◌, ◌<◌}
-use native.Mathlib.Nat.{mul_comm, mul_assoc, add-mul, pow-suc, div-eq_of_lt, add-div_right, div-div-eq-div-mul, mul-div-mul_right}
+use native.Mathlib.Nat.{mul_comm, mul_assoc, add-mul, pow-suc, div-eq_of_lt, add-div_right, div-div-eq-div-mul, mul-div-mul_right, le_trans}
 use native.Mathlib.Omega.{arith}
-use lib.Pow.{pow-add, pow_pos, pow_mono}
-use lib.Bits.{bit_and, and_mask}
+use lib.Pow.{pow-add, pow_pos, pow_mono, shr_le}
+use lib.Bits.{bit_and, and_mask, and_le_l}
 use Rattle.reading.specs.Reading.{unit, rounded_of}
 
 -- ---- the half bit
@@ -43,6 +43,15 @@ shifted p s h =
   where
     back : (s : ℕ) → 0 < s → suc (s - 1) ≡ s
     back s h = omega arith
+
+-- what is shifted and what is masked are small, whatever the mask
+pub shifted_lt : (p s mask : ℕ) → p < 2 ^ 31 → p / 2 ^ s + bit_and (p / 2 ^ (s - 1)) mask < 2 ^ 32
+shifted_lt p s mask h =
+    let halved : p / 2 ^ (s - 1) ≤ p = shr_le p (s - 1) in
+    go (p / 2 ^ s) (bit_and (p / 2 ^ (s - 1)) mask) (shr_le p s) (le_trans (and_le_l (p / 2 ^ (s - 1)) mask) halved)
+  where
+    go : (a b : ℕ) → a ≤ p → b ≤ p → a + b < 2 ^ 32
+    go a b k l = omega arith
 
 -- from a shift of 32 on nothing is left, nor a half
 pub far : (p s : ℕ) → p < 2 ^ 31 → 32 ≤ s → 0 ≡ rounded_of p s
