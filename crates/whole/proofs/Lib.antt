@@ -1,5 +1,6 @@
 pub mod Tests
 pub mod ListLaws
+pub mod Linear
 pub mod OrderLaws
 pub mod Read
 pub mod Elements

@@ -1,6 +1,6 @@
 -- Laws of tests over a list, and of the sum, the largest and the smallest of a list: their bounds, and what a loop that carries them comes to.
 use mathlib.Core.Path.{◌≡◌, refl, sym, ap, ◌∙◌}
-use mathlib.Core.Bool.{Bool, true, false, ◌||◌, cond, true≢false, or-false, or_assoc}
+use mathlib.Core.Bool.{Bool, true, false, ◌&&◌, ◌||◌, cond, true≢false, and-true, and_assoc, or-false, or_assoc}
 use mathlib.Core.List.{List, [], ◌∷◌, map}
 use Prim.Native.Nat.{ℕ, ◌+◌, ◌*◌, ◌<◌, max, min}
 use native.Mathlib.Omega.{arith}
@@ -12,7 +12,7 @@ use Rattle.std.specs.List.{All}
 use Rattle.std.proofs.lemmas.Int.{ints}
 use Rattle.std.proofs.lemmas.List.Elements.{All-nil, All-cons, All-head, All-tail}
 use Rattle.whole.specs.Bounds.{Within}
-use Rattle.whole.specs.Lists.{differ, any, total, larger_of, smaller_of, largest, smallest}
+use Rattle.whole.specs.Lists.{differ, any, all, total, larger_of, smaller_of, largest, smallest}
 use Rattle.std.specs.List.{fold}
 
 -- ---- a test, taken apart
@@ -33,18 +33,28 @@ unlike_no true b e = absurd (true≢false e)
 unlike_no false true e = refl
 unlike_no false false e = refl
 
--- ---- some element passes, as a loop
+-- ---- some element passes, and every element does, as loops
 
 module _ {A : Type 0} (p : A → Bool) where
   abbrev pub or_else : Bool → A → Bool
   or_else b x = b || p x
 
+  abbrev pub and_also : Bool → A → Bool
+  and_also b x = b && p x
+
   any_from : (b : Bool) (l : List A) → fold or_else b l ≡ b || any p l
   any_from b [] = sym (or-false b)
   any_from b (x ∷ l) = any_from (b || p x) l ∙ or_assoc b (p x) (any p l)
 
+  all_from : (b : Bool) (l : List A) → fold and_also b l ≡ b && all p l
+  all_from b [] = sym (and-true b)
+  all_from b (x ∷ l) = all_from (b && p x) l ∙ and_assoc b (p x) (all p l)
+
   pub any_fold : (l : List A) → fold or_else false l ≡ any p l
   any_fold l = any_from false l
+
+  pub all_fold : (l : List A) → fold and_also true l ≡ all p l
+  all_fold l = all_from true l
 
 pub any_map : {A B : Type 0} (p : B → Bool) (f : A → B) (l : List A) → any (λ x. p (f x)) l ≡ any p (map f l)
 any_map p f [] = refl
@@ -94,7 +104,7 @@ module _ (low high : ℕ) where
       let t = total_within l (All-tail (Within low high) z l h) in
       record { over = omega (arith, ints, w.over, t.over); under = omega (arith, ints, w.under, t.under) }
 
-  largest_within : (l : List ℤ) → All (Within low high) l → Within low high (largest l)
+  pub largest_within : (l : List ℤ) → All (Within low high) l → Within low high (largest l)
   largest_within [] h = record { over = omega (arith, ints); under = omega (arith, ints) }
   largest_within (x ∷ []) h = All-head (Within low high) x [] h
   largest_within (x ∷ y ∷ l) h =
