@@ -2,18 +2,20 @@
 use mathlib.Core.Path.{◌≡◌, refl, sym, ap, ◌∙◌}
 use mathlib.Core.Bool.{true, not, cond}
 use mathlib.Core.List.{List, [], ◌∷◌}
-use Prim.Native.Nat.{ℕ, ◌+◌, ◌≤◌}
+use Prim.Native.Nat.{ℕ, ◌+◌, ◌≤◌, ◌<◌}
 use native.Mathlib.Omega.{arith}
 use lib.ListN.{length}
 use lib.Dec.{ltb, eqb}
 use borrow.Author.Tests.{ne_eqb, not-false}
 use Rattle.std.proofs.lemmas.Bool.{cond_both}
-use Rattle.chart_rules.specs.TextLines.{names_line, starts_with}
-use Rattle.chart_rules.specs.Judging.{first_ruling, line_checks, ruling, value_lines, lines_checks, text_checks, starts, verdict, judged}
+use Rattle.chart_rules.specs.TextLines.{line_at, names_line, starts_with}
+use Rattle.chart_rules.specs.Judging.{first_ruling, line_checks, ruling, lines_at, value_lines, lines_checks, text_checks, starts, verdict, judged}
 use Rattle.chart_rules.specs.Fine.{GoodLines}
 use Rattle.chart_rules.specs.declared.ValueLine.{ValueLine}
 use Rattle.chart_rules.proofs.Rulings.{otherwise, first_append, fine_both, fine_line, fine_sample}
 use Rattle.chart_rules.proofs.Fine.{fine_head}
+use Rattle.chart_rules.proofs.TextLines.{lines_bad}
+use Rattle.chart_rules.specs.declared.TextRefusal.TheVariants.{BadLine}
 use Rattle.std.specs.Prelude.{Option, Some, None, Result, Ok, Err}
 use Rattle.chart_rules.specs.declared.RefusedText.{RefusedText}
 
@@ -39,6 +41,11 @@ module _ (week sample sets line : ℕ) where
   pub judge_end : (ls : List (Option ValueLine)) → ls ≡ [] → verdict_at week sample sets line ls ≡ Ok sets
   unfolding starts
   judge_end ls e = rw e (ap Ok (omega arith))
+
+  -- a line that can't be read
+  pub judge_bad : (text : List ℕ) (at : ℕ) → at < length text → line_at text at ≡ None
+      → verdict_at week sample sets line (lines_at text at) ≡ Err (record { refusal = BadLine; line = line })
+  judge_bad text at inside e = rw (lines_bad text at inside e)
 
   module _ (v : ValueLine) (ls : List (Option ValueLine)) where
     pub judge_refused : (r : RefusedText) → ruling week sample line v ≡ Err r → verdict_at week sample sets line (Some v ∷ ls) ≡ Err r

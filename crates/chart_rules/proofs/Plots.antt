@@ -43,7 +43,7 @@ pub record GoodPair (p : Pair) : Type 0 where
   pub original : Within 0 10000 p.original
   pub monitor : Within 0 10000 p.monitor
 
-pairs_inside : (l : List ℤ) → All (Within 0 10000) l → All GoodPair (pairs_of l)
+pub pairs_inside : (l : List ℤ) → All (Within 0 10000) l → All GoodPair (pairs_of l)
 pairs_inside [] h = All-nil GoodPair
 pairs_inside (a ∷ []) h = All-nil GoodPair
 pairs_inside (a ∷ b ∷ l) h =

@@ -6,17 +6,18 @@ use mathlib.Core.List.{List, [], ◌∷◌, ◌++◌}
 use Prim.Native.Nat.{ℕ, ◌+◌, ◌≤◌, ◌<◌}
 use native.Mathlib.Omega.{arith}
 use lib.IntN.{pos}
-use lib.Dec.{eqb}
-use borrow.Author.Tests.{leb-true, eqb-true, eqb-false, not-true, not-false}
+use lib.Dec.{eqb, ltb}
+use borrow.Author.Tests.{le-ltb, leb-true, eqb-true, eqb-false, not-true, not-false}
 use Rattle.std.proofs.lemmas.Bool.{or_cases}
 use Rattle.std.proofs.lemmas.Int.{ints}
 use Rattle.std.proofs.lemmas.List.Elements.{All-head, All-tail}
 use Rattle.whole.specs.Bounds.{Within}
 use Rattle.whole.specs.Lists.{Check}
-use Rattle.whole.proofs.Tests.{and_both}
+use Rattle.whole.proofs.Tests.{and_both, or_false}
 use Rattle.whole.proofs.ListLaws.{by_test}
 use Rattle.chart_rules.specs.Judging.{first_ruling, is_next, is_start, ruling}
 use Rattle.chart_rules.specs.Fine.{FineLine}
+use Rattle.chart_rules.specs.Refusals.{outside, bad_result}
 use Rattle.chart_rules.specs.declared.ValueLine.{ValueLine}
 use Rattle.chart_rules.proofs.Fine.{fine_head}
 use Rattle.chart_rules.proofs.Bounds.{results_inside, week_facts}
@@ -100,3 +101,12 @@ fine_first week v f =
     (λ n. absurd ((next_facts week 0 v n).0 refl))
     (λ s. start_facts week 0 v s)
     (or_cases (is_next week 0 v) (is_start week 0 v) f.place)
+
+-- ---- results that have no sign
+pub natural_outside : (n : ℕ) → outside (pos n) ≡ ltb 10000 n
+unfolding outside
+natural_outside n = rw (le-ltb n 0 (omega arith))
+
+pub bad_pair : (o m : ℕ) → ltb 10000 o || ltb 10000 m ≡ bad_result (pos o ∷ pos m ∷ [])
+unfolding bad_result
+bad_pair o m = rw (natural_outside o, natural_outside m, or_false (ltb 10000 m))

@@ -1,11 +1,11 @@
 -- Which held sets are sound, by worked cases; what is known of a sound set, and that the set of good results is one.
-use mathlib.Core.Path.{◌≡◌, refl}
-use mathlib.Core.List.{List, map}
+use mathlib.Core.Path.{◌≡◌, refl, ◌∙◌}
+use mathlib.Core.List.{List, [], ◌∷◌, map}
 use mathlib.Core.Bool.{true, false}
-use Prim.Native.Nat.{◌≤◌}
+use Prim.Native.Nat.{ℕ, zero, suc, ◌+◌, ◌*◌, ◌≤◌, ◌<◌}
 use native.Mathlib.Omega.{arith}
-use lib.IntN.{ℤ, ◌-ℤ◌, nat_abs}
-use lib.ListN.{length}
+use lib.IntN.{ℤ, pos, ◌-ℤ◌, nat_abs}
+use lib.ListN.{length, get_or}
 use lib.Dec.{leb}
 use Rattle.std.specs.List.{All}
 use Rattle.std.proofs.lemmas.Bool.{le-leb, leb-true, and_parts}
@@ -24,7 +24,7 @@ use Rattle.chart_rules.specs.Calls.{decided, accepted, result_of}
 use Rattle.chart_rules.specs.Cases.{helds}
 use Rattle.chart_rules.specs.declared.ChartSet.{ChartSet}
 use Rattle.chart_rules.proofs.Bounds.{size_facts}
-use Rattle.chart_rules.proofs.Plots.{GoodPair, pairs_length, good_pairs, of_pairs, plot_most}
+use Rattle.chart_rules.proofs.Plots.{GoodPair, pairs_length, pairs_inside, good_pairs, of_pairs, plot_most}
 
 pub helds_hold : map (λ c. c.gives) helds ≡ map (λ c. c.says) helds
 unfolding helds bad_size outside bad_result mean_of plot_of set_of sound_set limits_of absolute at_or_above at_or_below tolerance range_tolerance one_side run_by run sound next_chart values_of bad_week refusal_of decided accepted result_of
@@ -50,8 +50,24 @@ sound_set_lem s e =
       range = leb-true s.range 20000 a.1;
     }
 
-differences_within : (ps : List Pair) → All GoodPair ps → All (Within 10000 10000) (differences ps)
+-- ---- differences
+pub differences_within : (ps : List Pair) → All GoodPair ps → All (Within 10000 10000) (differences ps)
 differences_within = of_pairs 10000 10000 difference (λ p g. record { over = omega (arith, ints, g.original.over, g.monitor.under); under = omega (arith, ints, g.original.under, g.monitor.over) })
+
+-- of results in their range
+pub each_diff : (l : List ℤ) → All (Within 0 10000) l → All (Within 10000 10000) (differences (pairs_of l))
+each_diff l h = differences_within (pairs_of l) (pairs_inside l h)
+
+-- a pair's difference, by its place
+pub diff_at : (k : ℕ) (l : List ℤ) → 2 * k + 1 < length l
+    → get_or l (2 * k) (pos 0) -ℤ get_or l (2 * k + 1) (pos 0) ≡ get_or (differences (pairs_of l)) k (pos 0)
+diff_at k [] h = absurd (omega arith)
+diff_at k (a ∷ []) h = absurd (omega arith)
+diff_at zero (a ∷ b ∷ l) h = refl
+diff_at (suc k) (a ∷ b ∷ l) h =
+    let e : 2 * suc k ≡ suc (suc (2 * k)) = omega arith in
+    let f : 2 * suc k + 1 ≡ suc (suc (2 * k + 1)) = omega arith in
+    (λ i. get_or (a ∷ b ∷ l) (e i) (pos 0) -ℤ get_or (a ∷ b ∷ l) (f i) (pos 0)) ∙ diff_at k l (omega arith)
 
 -- the set of results to which neither 20 nor 21 applies is sound
 pub set_sound : (numbers : List ℤ) → bad_size (length numbers) ≡ false → bad_result numbers ≡ false → sound_set (set_of numbers) ≡ true
