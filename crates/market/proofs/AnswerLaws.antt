@@ -1,30 +1,62 @@
 -- Which answer a market test gets, by its tests in the order of their numbers.
 use mathlib.Core.Path.{◌≡◌, refl, sym, ap, ◌∙◌}
+use mathlib.Core.Bool.{false, cond}
 use mathlib.Core.List.{List, ◌∷◌}
 use Rattle.std.specs.Prelude.{Result, Ok, Err, Option, None, Some}
 use Rattle.std.proofs.Common.{IsErrAnd}
 use Prim.Native.Nat.{ℕ, ◌≤◌}
 use native.Mathlib.Omega.{arith}
-use lib.IntN.{ℤ}
+use lib.Ieee.{Float}
+use lib.IntN.{ℤ, pos, ◌+ℤ◌}
 use lib.ListN.{length}
 use Rattle.whole.specs.Lists.{Check}
+use Rattle.reading.specs.Reading.{answer_of}
+use Rattle.station_rules.specs.Lines.{Values}
 use Rattle.station_rules.specs.Refusals.{first_number}
-use Rattle.station_rules.specs.Markets.{market_checks, certificate_of}
+use Rattle.station_rules.specs.Markets.{basis_of, basis_from, asked_intercept, other_class, other_basis, within, market_checks, certificate_of}
 use Rattle.station_rules.specs.Judging.{line_check, market_numbers}
 use Rattle.station_rules.specs.Soundness.{sound_check}
 use Rattle.station_rules.specs.Stations.{values_of, market_station, market_result, market_of}
 use Rattle.station_rules.specs.Places.{station_in}
 use Rattle.station_rules.specs.InPlace.{Left, with_day, market_left, market_in}
 use Rattle.station_refusals.specs.declared.Refusal.{Refusal}
+use Rattle.station_refusals.specs.declared.Refusal.TheVariants.{BadFloat, BadBasis, BadValue}
 use Rattle.station_rules.specs.declared.Scan.{Scan}
 use Rattle.station_rules.specs.declared.Asked.{Asked}
 use Rattle.station_rules.specs.declared.Basis.{Basis}
 use Rattle.station_rules.specs.Held.{Station}
 use Rattle.station_rules.specs.declared.Certificate.{Certificate}
-use Rattle.market_certificate.specs.Certified.{answer_by}
+use Rattle.market_scan.specs.Scans.{picked_of}
+use Rattle.market_certificate.specs.Certified.{answer_by, certified_of}
 use Rattle.station_entry.specs.Entries.{day_checks, line_checks, refused_or, footing}
 use Rattle.station_entry.proofs.EntryLaws.{refused_by, none_before, none_front, some_before, serves}
-use Rattle.market.specs.Answers.{tested_of, answered_of}
+use Rattle.market.specs.Answers.{judged_of, tested_of, answered_of}
+use Rattle.market.proofs.JudgeLaws.{judged}
+
+-- ---- number 9, where none of 8, 23 and 24 applies
+
+-- the answer to a reading n of what is asked: numbers 10 to 12, 25, 26, 13 and 14
+abbrev pub read_of : ℕ → Values → (day n : ℕ) → Asked → Basis → Result Certificate Refusal
+read_of row v day n asked basis =
+    let a = basis_from row asked in
+    let i = asked_intercept asked v.intercept in
+    let b = basis_of a basis in
+    let h = pos n +ℤ i in
+    cond (within 0 5000 b) (cond (within 0 10000 h) (certified_of a v day i b h) (Err BadValue)) (Err BadBasis)
+
+module _ (row : ℕ) (v : Values) (day line : ℕ) (scan : Scan) (asked : Asked) (basis : Basis)
+    (x : Float) (picked : picked_of row scan asked line ≡ Some x)
+    (class : other_class asked ≡ false) (standard : other_basis asked basis ≡ false) where
+  -- the float is refused
+  pub float_bad : answer_of x ≡ None → Err BadFloat ≡ tested_of row v day line scan asked basis
+  unfolding judged_of
+  float_bad e = simp (judged, picked, class, standard, e)
+
+  -- it is read
+  pub float_read : (n : ℕ) → answer_of x ≡ Some n
+      → read_of row v day n asked basis ≡ tested_of row v day line scan asked basis
+  unfolding judged_of
+  float_read n e = simp (judged, picked, class, standard, e)
 
 -- ---- numbers 0, 2 and 3
 

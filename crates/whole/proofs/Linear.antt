@@ -1,4 +1,5 @@
--- The ring laws that the library lacks: the product over a sum and a difference, from either side, over a negation, and its associativity.
+-- The ring laws that the library lacks: the product over a sum and a difference, from either side, over a negation,
+-- and its associativity.
 use mathlib.Core.Path.{◌≡◌, ap, ◌∙◌}
 use Prim.Native.Nat.{ℕ, ◌+◌, ◌*◌}
 use native.Mathlib.Omega.{arith}
