@@ -12,7 +12,8 @@ use Rattle.chart_rules.specs.declared.Limits.{Limits}
 use Rattle.chart_limits.specs.Small.{SmallLimits}
 
 -- what passes of every element and of the default passes of any place
-all_at : {A : Type 0} (p : A → Bool) (d : A) (l : List A) (i : ℕ) → p d ≡ true → all p l ≡ true → p (get_or l i d) ≡ true
+all_at : {A : Type 0} (p : A → Bool) (d : A) (l : List A) (i : ℕ) → p d ≡ true → all p l ≡ true
+    → p (get_or l i d) ≡ true
 all_at p d [] i e a = e
 all_at p d (x ∷ l) zero e a = (and_parts (p x) (all p l) a).0
 all_at p d (x ∷ l) (suc i) e a = all_at p d l i e (and_parts (p x) (all p l) a).1

@@ -40,7 +40,8 @@ module _ (p : Progress) (some : p.set.count ≡ 0 → ⊥) (ten : length p.set.n
   unfolding seen
   flush_is = rw held at (rw in_40 at e)
 
-  pub flush_chart : (left : List ℤ) → left ≡ left_by a p.chart p.set.week numbers → chart_at left ≡ chart_after (chart_at p.chart) (finished (seen p.set))
+  pub flush_chart : (left : List ℤ) → left ≡ left_by a p.chart p.set.week numbers
+      → chart_at left ≡ chart_after (chart_at p.chart) (finished (seen p.set))
   unfolding chart_after seen
   flush_chart left l =
       ap chart_at (l ∙ (λ i. left_by (flush_is i) p.chart p.set.week (held i)))
