@@ -1,1 +1,2 @@
 pub mod DueLaws
+pub mod RangeLaws

@@ -7,7 +7,7 @@ ghost use Rattle.std.specs.Result.{result_err as err};
 ghost use Rattle.station_rules.specs.Lines.{test_of, plus, first_exceeded, newest_tests, five_test, averages_due, tests_by};
 ghost use Rattle.station_rules.specs.Held.{phase_word};
 ghost use Rattle.line_past.specs.Ranges.{SetsOf};
-ghost use Rattle.line_averages.specs.Ranges.{Together, FoundFits, Due};
+ghost use Rattle.line_averages.specs.Ranges.{Together, FoundFits, Limited, FoundLimited, Due};
 
 use station_rules::{ADJUSTED_LINE, Limits, PastSet, Set, Test};
 
@@ -92,7 +92,8 @@ pub fn first_exceeded(
     nonzero: &[PastSet],
 ) -> Option<Test>
     requires { (Due set newest.now) × (Due set nonzero.now) }
-    ensures { (result ≡ first_exceeded (tests_by limits (phase_word phase) set newest.now nonzero.now)) × FoundFits result }
+    ensures found { (result ≡ first_exceeded (tests_by limits (phase_word phase) set newest.now nonzero.now)) × FoundFits result }
+    ensures limited { Limited limits → FoundLimited result }
 {
     if phase < ADJUSTED_LINE {
         meet_averages(limits, set, newest, nonzero).err()

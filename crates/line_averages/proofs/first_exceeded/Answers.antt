@@ -1,24 +1,36 @@
 use mathlib.Core.Path.{refl, subst⁻¹, ◌∙◌}
 use Rattle.station_rules.specs.Lines.{LinePhase, tests_by, first_exceeded}
+use Rattle.station_rules.specs.Held.{phase_word}
 use Rattle.station_rules.proofs.Phases.{early, late}
 use Rattle.line_averages.specs.Ranges.{FoundFits}
+use Rattle.line_averages.proofs.RangeLaws.{found_limited}
 use Rattle.line_averages.proofs.first_exceeded.Goals as goal
 
-pub returns-then-phase-lt-ADJUSTED_LINE : goal.returns-then-phase-lt-ADJUSTED_LINE
+pub returns-then-phase-lt-ADJUSTED_LINE-clause-found : goal.returns-then-phase-lt-ADJUSTED_LINE-clause-found
 unfolding tests_by
-returns-then-phase-lt-ADJUSTED_LINE c =
+returns-then-phase-lt-ADJUSTED_LINE-clause-found c =
     let s = c.args in (
       c.err.ensures.value ∙ c.meet_averages.ensures.0
           ∙ early (λ (phase : LinePhase). first_exceeded (tests_by s.limits phase s.set s.newest.now s.nonzero.now)) refl s.phase c.if-phase-lt-ADJUSTED_LINE.true,
       subst⁻¹ FoundFits c.err.ensures.value c.meet_averages.ensures.1,
     )
 
-pub returns-else-phase-lt-ADJUSTED_LINE : goal.returns-else-phase-lt-ADJUSTED_LINE
+pub returns-then-phase-lt-ADJUSTED_LINE-clause-limited : goal.returns-then-phase-lt-ADJUSTED_LINE-clause-limited
+returns-then-phase-lt-ADJUSTED_LINE-clause-limited c =
+    let s = c.args in
+    found_limited s.limits (phase_word s.phase) s.set s.newest.now s.nonzero.now (returns-then-phase-lt-ADJUSTED_LINE-clause-found c).0
+
+pub returns-else-phase-lt-ADJUSTED_LINE-clause-found : goal.returns-else-phase-lt-ADJUSTED_LINE-clause-found
 unfolding tests_by
-returns-else-phase-lt-ADJUSTED_LINE c =
+returns-else-phase-lt-ADJUSTED_LINE-clause-found c =
     let s = c.args in
     let e = c.err-else-phase-lt-ADJUSTED_LINE.ensures.value in (
       e ∙ c.meet.ensures.0
           ∙ late (λ (phase : LinePhase). first_exceeded (tests_by s.limits phase s.set s.newest.now s.nonzero.now)) refl s.phase c.if-phase-lt-ADJUSTED_LINE.false,
       subst⁻¹ FoundFits e c.meet.ensures.1,
     )
+
+pub returns-else-phase-lt-ADJUSTED_LINE-clause-limited : goal.returns-else-phase-lt-ADJUSTED_LINE-clause-limited
+returns-else-phase-lt-ADJUSTED_LINE-clause-limited c =
+    let s = c.args in
+    found_limited s.limits (phase_word s.phase) s.set s.newest.now s.nonzero.now (returns-else-phase-lt-ADJUSTED_LINE-clause-found c).0

@@ -28,11 +28,11 @@ returns-in-Some c =
     let fr : SFits w32 c.rounded.result = search rules in
     let average = to_z-of_z w32 c.rounded.result fr ∙ c.rounded.ensures.0 ∙ ap (λ (z : ℤ). rounded_away z t.count) (to_z-of_z w32 t.sum ft) in (
       c.adjust.ensures.0 ∙ ap (adjust_by s.l.line.intercept) average
-          ∙ judged_by s.limits s.l.line s.day s.set (λ e. omega arith) c.in-Some.ensures.0 (search rules) (search rules),
+          ∙ judged_by s.limits s.l.line s.day s.set (λ e. omega arith) c.in-Some.ensures.found.0 (search rules) (search rules),
       c.adjust.ensures.1,
     )
 
 pub returns-in-None : goal.returns-in-None
 returns-in-None c =
     let s = c.args in
-    (judged_by s.limits s.l.line s.day s.set (λ e. omega arith) c.in-None.ensures.0 (search rules) (search rules), record { over = omega (arith, ints); under = omega (arith, ints) })
+    (judged_by s.limits s.l.line s.day s.set (λ e. omega arith) c.in-None.ensures.found.0 (search rules) (search rules), record { over = omega (arith, ints); under = omega (arith, ints) })
