@@ -2,7 +2,7 @@
 
 #![tactic(auto)]
 
-ghost use Rattle.std.specs.Prelude.{◌≡◌, ◌≤◌, ◌<◌};
+ghost use Rattle.std.specs.Prelude.{◌≡◌, ◌≤◌, ◌<◌, All};
 ghost use Rattle.station_rules.specs.Markets.{basis_of, newest_day, within, too_high, tenths, tenths_at};
 
 use station_rules::{Basis, LARGEST, PastSet, WHOLE};
@@ -28,7 +28,8 @@ pub fn up_to(high: u32, z: i32) -> bool
 
 // The day of the newest of the past sets; 0 where there is none, as in the rules.
 pub fn newest_day(past: &[PastSet]) -> u32
-    ensures { result ≡ newest_day past.now }
+    ensures value { result ≡ newest_day past.now }
+    ensures in_range { All (λ p. p.day ≤ 99999) past.now → result ≤ 99999 }
 {
     match past {
         [newest, ..] => newest.day,
