@@ -3,13 +3,13 @@ use Rattle.std.specs.Prelude.{Result, Ok, Err, Option, None, Some}
 use mathlib.Core.Path.{◌≡◌, refl, ap, ◌∙◌}
 use mathlib.Core.Bool.{true, false}
 use mathlib.Core.List.{List}
-use Prim.Native.Nat.{ℕ, zero, suc}
+use Prim.Native.Nat.{ℕ}
 use lib.IntN.{ℤ}
 use Rattle.station_rules.specs.Rows.{row_exists}
 use Rattle.station_rules.specs.Refusals.{first_number}
 use Rattle.station_rules.specs.Stations.{open_of, repair_station, repair_result, repair_of}
 use Rattle.station_rules.specs.Places.{station_in}
-use Rattle.station_rules.specs.InPlace.{Left, opened_station, open_in, with_repaired, repair_places, repair_left, repair_in}
+use Rattle.station_rules.specs.InPlace.{Left, opened_station, open_in, repair_places, repair_left, repair_in}
 use Rattle.station_refusals.specs.declared.Refusal.TheVariants.{UnknownRow}
 use Rattle.station_refusals.specs.declared.Refusal.{Refusal}
 use Rattle.station_entry.specs.Entries.{day_checks, refused_or}
@@ -38,8 +38,3 @@ repair_by_lem words day o e = ap (repair_by words day) e ∙ go (first_number (d
         ◌≡◌ {A = Left (Result Unit Refusal)} (repair_by words day (refused_or tt o)) (record { answer = answer; places = repair_left answer words (repair_places words day) })
     go None = refl
     go (Some number) = refl
-
--- the places once the first lines are repaired
-abbrev pub repaired_to : List ℤ → ℕ → List ℤ
-repaired_to words zero = words
-repaired_to words (suc line) = with_repaired (repaired_to words line) line

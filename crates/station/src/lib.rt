@@ -14,9 +14,6 @@ ghost use Rattle.station.specs.Accepted.{accepted_in, Acceptable, Ruled};
 use line::{HeldSet, SoundLine};
 use station_rules::{Outcome, PastSet, ROW_PLACE, Refusal, STATION_PLACES, Set};
 
-// The lines that a station has places for.
-const STATION_LINES: usize = 3;
-
 // ---- opening
 
 // Every place is written: the row, and 0. The row is the number that C hands in.
@@ -79,13 +76,14 @@ pub fn sheet(state: &mut [i32], day: u32, line: usize, numbers: &[i32]) -> Resul
 
 // ---- a repair
 
+// Each line by itself: the spare ones are written too, and no call loops over more than the row's lines.
 pub fn repair(state: &mut [i32], day: u32) -> Result<(), Refusal>
     ensures { record { answer = result; places = state.new } ≡ repair_in state.old day }
 {
     station_entry::judge_day(state, day)?;
-    for line in 0..STATION_LINES {
-        station_places::repair_line(state, line);
-    }
+    station_places::repair_line(state, 0);
+    station_places::repair_line(state, 1);
+    station_places::repair_line(state, 2);
     station_places::put_day(state, day);
     Ok(())
 }
