@@ -92,7 +92,8 @@ pub fn first_exceeded(
     nonzero: &[PastSet],
 ) -> Option<Test>
     requires { (Due set newest.now) × (Due set nonzero.now) }
-    ensures found { (result ≡ first_exceeded (tests_by limits (phase_word phase) set newest.now nonzero.now)) × FoundFits result }
+    ensures found { result ≡ first_exceeded (tests_by limits (phase_word phase) set newest.now nonzero.now) }
+    ensures fits { FoundFits result }
     ensures limited { Limited limits → FoundLimited result }
 {
     if phase < ADJUSTED_LINE {

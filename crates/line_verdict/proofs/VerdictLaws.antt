@@ -1,20 +1,22 @@
 -- The verdict on a set by the test found, the sets that its tests are made with, and an adjustment by its test.
 use mathlib.Core.Path.{◌≡◌, refl, sym, ap, ◌∙◌, subst⁻¹}
+use mathlib.Core.Bool.{Bool, false}
 use mathlib.Core.List.{List}
 use Rattle.std.specs.Prelude.{Option}
 use Prim.Native.Nat.{ℕ, ◌≤◌, ◌<◌}
 use native.Mathlib.Omega.{arith}
+use lib.Dec.{leb}
 use lib.IntN.{ℤ, neg_ℤ, nat_abs, ◌-ℤ◌}
 use lib.ListN.{length, take, get_or, length-take}
 use lib.Seq.{get_or-take}
-use borrow.Author.Tests.{le-leb, ne_eqb}
+use borrow.Author.Tests.{eq-eqb, le-leb, ne_eqb}
 use Rattle.whole.proofs.ListLaws.{cond_yes, cond_no}
 use Rattle.station_rules.specs.Lines.{valid_on, tests_by, first_exceeded, judged, verdict_of, adjust_by}
 use Rattle.station_rules.specs.Held.{no_set, line_values, phase_word}
 use Rattle.station_rules.specs.declared.Limits.{Limits}
 use Rattle.station_rules.specs.declared.Set.{Set}
 use Rattle.station_rules.specs.declared.Test.{Test}
-use Rattle.station_rules.specs.declared.Verdict.TheVariants.{Adjusted}
+use Rattle.station_rules.specs.declared.Verdict.TheVariants.{Adjusted, Shut}
 use Rattle.station_rules.specs.declared.PastSet.{PastSet}
 use Rattle.station_rules.specs.declared.Line.{Line}
 use Rattle.line_past.specs.Ranges.{PastFits}
@@ -23,6 +25,11 @@ use Rattle.line.specs.Ranges.{SetsFit}
 use Rattle.line_averages.specs.Ranges.{Together, Due}
 
 -- ---- the verdict
+
+pub verdict_shut : (limits : Limits) (l : Line) (day : ℕ) (set : Set) → set.count ≡ 0
+    → Shut ≡ verdict_of limits (line_values l) day set
+unfolding verdict_of
+verdict_shut limits l day set h = cond_yes _ _ refl (eq-eqb set.count 0 h)
 
 -- the test found among those by the valid sets of either kind is the rules'
 pub judged_by : (limits : Limits) (l : Line) (day : ℕ) (set : Set) {f : Option Test} {newest nonzero : List PastSet} → (set.count ≡ 0 → ⊥)
@@ -55,3 +62,7 @@ valid_due day most held past set few fits one {valid} e =
 
 pub adjusted : (i a : ℤ) {change : ℤ} → nat_abs (i -ℤ a) ≤ 1000 → change ≡ neg_ℤ a → Adjusted change ≡ adjust_by i a
 adjusted i a h e = ap Adjusted e ∙ cond_yes _ _ refl (le-leb (nat_abs (i -ℤ a)) 1000 h)
+
+pub adjust_no : (i a : ℤ) {next : ℤ} {b : Bool} → next ≡ i -ℤ a → b ≡ leb (nat_abs next) 1000 → b ≡ false
+    → Shut ≡ adjust_by i a
+adjust_no i a e f g = cond_no _ _ (f ∙ ap (λ (z : ℤ). leb (nat_abs z) 1000) e) g

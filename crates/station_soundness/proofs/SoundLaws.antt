@@ -2,17 +2,17 @@
 use mathlib.Core.Path.{◌≡◌, refl, sym, ◌∙◌, ap, ap₂, subst}
 use mathlib.Core.Bool.{Bool, true, false, ◌&&◌}
 use mathlib.Core.List.{List, [], ◌∷◌, map}
-use Prim.Native.Nat.{ℕ, zero, suc, ◌+◌, ◌-◌, ◌/◌, ◌≤◌, ◌<◌}
+use Prim.Native.Nat.{ℕ, zero, suc, ◌+◌, ◌-◌, ◌*◌, ◌/◌, ◌%◌, ◌≤◌, ◌<◌}
 use native.Mathlib.Numerals.{add-one}
 use native.Mathlib.Omega.{arith}
 use lib.Dec.{eqb, leb, leb→le}
-use lib.IntN.{ℤ, pos}
+use lib.IntN.{ℤ, pos, nat_abs}
 use borrow.Rule.Slice.PartMut.{mid_of}
 use Rattle.std.specs.Simd.{first_chunks}
 use Rattle.whole.proofs.Spelled.{elements, spelled}
 use lib.ListN.{length, take, drop, get_or, drop_of_length-le}
 use lib.Seq.{drop-cons}
-use borrow.Author.Tests.{le-ltb, le-leb, lt-leb, eqb-true}
+use borrow.Author.Tests.{le-ltb, le-leb, lt-leb, eq-eqb, ne_eqb, eqb-true}
 use Rattle.station_soundness.specs.Past.{sound_one, sound_kind}
 use Rattle.std.proofs.lemmas.List.{take-map}
 use Rattle.whole.specs.Lists.{all}
@@ -114,6 +114,23 @@ lines_cut words parts full cut =
 pub all_map : {A B : Type 0} (p : B → Bool) (f : A → B) (l : List A) → all (λ x. p (f x)) l ≡ all p (map f l)
 all_map p f [] = refl
 all_map p f (x ∷ l) = ap (λ (b : Bool). p (f x) && b) (all_map p f l)
+
+-- ---- a past set
+
+module _ (n : ℕ) (p : PastSet) where
+  pub odd_set : (p.count % 2 ≡ 0 → ⊥) → false ≡ sound_set n p
+  odd_set h = simp (ne_eqb (p.count % 2) 0 h)
+
+  module _ (even : p.count % 2 ≡ 0) where
+    pub small_set : p.count < 2 → false ≡ sound_set n p
+    small_set h = simp (eq-eqb (p.count % 2) 0 even, lt-leb 2 p.count h)
+
+    module _ (two : 2 ≤ p.count) where
+      pub large_set : 2 * n < p.count → false ≡ sound_set n p
+      large_set h = simp (eq-eqb (p.count % 2) 0 even, le-leb 2 p.count two, lt-leb p.count (2 * n) h)
+
+      pub right_set : p.count ≤ 2 * n → leb (nat_abs p.sum) (11000 * p.count) ≡ sound_set n p
+      right_set h = simp (eq-eqb (p.count % 2) 0 even, le-leb 2 p.count two, le-leb p.count (2 * n) h)
 
 -- ---- a line
 

@@ -24,15 +24,19 @@ pub returns-in-Some : goal.returns-in-Some
 returns-in-Some c =
     let s = c.args in
     let t = c.in-Some.t in
+    let e = c.in-Some.ensures.found in
     let ft : SFits w32 t.sum = search rules in
     let fr : SFits w32 c.rounded.result = search rules in
     let average = to_z-of_z w32 c.rounded.result fr ∙ c.rounded.ensures.0 ∙ ap (λ (z : ℤ). rounded_away z t.count) (to_z-of_z w32 t.sum ft) in (
       c.adjust.ensures.0 ∙ ap (adjust_by s.l.line.intercept) average
-          ∙ judged_by s.limits s.l.line s.day s.set (λ e. omega arith) c.in-Some.ensures.found.0 (search rules) (search rules),
+          ∙ judged_by s.limits s.l.line s.day s.set (λ e. omega arith) e (search rules) (search rules),
       c.adjust.ensures.1,
     )
 
 pub returns-in-None : goal.returns-in-None
 returns-in-None c =
     let s = c.args in
-    (judged_by s.limits s.l.line s.day s.set (λ e. omega arith) c.in-None.ensures.found.0 (search rules) (search rules), record { over = omega (arith, ints); under = omega (arith, ints) })
+    let e = c.in-None.ensures.found in (
+      judged_by s.limits s.l.line s.day s.set (λ e. omega arith) e (search rules) (search rules),
+      record { over = omega (arith, ints); under = omega (arith, ints) },
+    )

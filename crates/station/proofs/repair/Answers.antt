@@ -35,5 +35,6 @@ returns c =
     let w = c.args.state.now in
     let two = c.repair_line-2.ensures ∙ ap (λ (words : List ℤ). with_repaired words 1) c.repair_line.ensures in
     let all = c.repair_line-3.ensures ∙ ap (λ (words : List ℤ). with_repaired words 2) two in
-    (λ i. record { answer = Ok tt; places = (c.put_day.ensures ∙ ap (λ (words : List ℤ). with_day words c.args.day) all) i })
+    let done = c.put_day.ensures ∙ ap (λ (words : List ℤ). with_day words c.args.day) all in
+    (λ i. record { answer = Ok tt; places = done i })
     ∙ repair_by_lem w c.args.day (Ok tt) c.in_ok-judge_day.ensures
