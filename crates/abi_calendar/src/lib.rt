@@ -89,11 +89,20 @@ impl From<Result<Weekday, Refusal>> for GrainWeekday {
                 number: 0,
                 weekday: weekday.into(),
             },
-            Err(refusal) => GrainWeekday {
-                accepted: 0,
-                number: refusal.into(),
-                weekday: 0,
-            },
+            Err(refusal) => refused_weekday(refusal.into()),
         }
+    }
+}
+
+// Out of line, so that a day's weekday does not pass by the zeros of a refusal.
+#[cold]
+#[inline(never)]
+fn refused_weekday(number: u32) -> GrainWeekday
+    ensures { (result.accepted ≡ 0) × ((result.number ≡ number) × (result.weekday ≡ 0)) }
+{
+    GrainWeekday {
+        accepted: 0,
+        number,
+        weekday: 0,
     }
 }
