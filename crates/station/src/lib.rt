@@ -5,7 +5,7 @@
 
 #![tactic(auto)]
 
-ghost use Rattle.std.specs.Prelude.{◌≡◌, Ok};
+ghost use Rattle.std.specs.Prelude.{◌≡◌, Ok, length, pos, replicate};
 ghost use Rattle.station_rules.specs.InPlace.{open_in, sheet_in, repair_in};
 ghost use Rattle.station_rules.specs.Places.{station_in};
 ghost use Rattle.station_rules.specs.Stations.{check_of};
@@ -16,11 +16,24 @@ use station_rules::{Outcome, PastSet, ROW_PLACE, Refusal, STATION_PLACES, Set};
 
 // ---- opening
 
+// Half of a fresh station's places.
+const HALF: usize = STATION_PLACES / 2;
+
+// Out of line: the halves, joined, would be zeroed by a call of memset, which the library would need from outside.
+#[inline(never)]
+fn put_zeros(half: &mut [i32])
+    requires { length half.old ≡ 34 }
+    ensures { half.new ≡ replicate 34 (pos 0) }
+{
+    half.fill(0);
+}
+
 // Every place is written: the row, and 0. The row is the number that C hands in.
 pub fn open(state: &mut [i32; STATION_PLACES], row: usize) -> Result<(), Refusal>
     ensures { record { answer = result; places = state.new } ≡ open_in row }
 {
-    *state = [0; STATION_PLACES];
+    put_zeros(&mut state[..HALF]);
+    put_zeros(&mut state[HALF..]);
     if !row_table::row_exists(row) {
         return Err(Refusal::UnknownRow);
     }
