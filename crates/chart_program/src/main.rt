@@ -7,6 +7,7 @@
 mod command_line;
 
 use std::alloc::Global;
+use std::env::{Env, FillError};
 use std::io::Read;
 use std::process::ExitCode;
 use std::{env, fs, io};
@@ -15,7 +16,7 @@ use text_stream::{Charted, StreamError};
 // As which the program is handed out.
 pub(crate) const NAME: &str = "grain-chart";
 
-pub(crate) const VERSION: &str = "0.9.0";
+pub(crate) const VERSION: &str = "0.9.1";
 
 // What the exit status says where a file is named, besides 0, charted, and 2, the command line.
 const REFUSED: u8 = 1;
@@ -82,8 +83,17 @@ fn chart_file(rt: &HostRuntime, alloc: Global, file: &str) -> io::Result<u8> {
     }
 }
 
+// Whether the program was called without arguments; its own name is not looked at.
+fn is_filter(rt: &HostRuntime) -> bool {
+    matches!(rt.arg(1, &mut []), Err(FillError::NotPresent))
+}
+
 fn run(rt: &HostRuntime) -> io::Result<u8> {
     let alloc = rt.alloc();
+    // a filter charts whatever it is called, also by a name that is not UTF-8
+    if is_filter(rt) {
+        return Ok(filter(rt, alloc));
+    }
     let words: Vec<String> = env::args(rt)?.collect(alloc)?;
     let command = command_line::grain_chart(alloc)?;
     match command.try_get_matches_from(words.as_slice()) {
