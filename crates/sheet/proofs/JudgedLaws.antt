@@ -20,8 +20,8 @@ use Rattle.sheet_numbers.specs.Samples.{has_again}
 use Rattle.sheet_numbers.proofs.SheetLaws.{samples_length, accepted_by, refused_by}
 use Rattle.sheet_pass.specs.Passes.{round_of, all_of, found_of}
 use Rattle.sheet_pass.specs.declared.Found.{Found}
-use Rattle.sheet_again.specs.Tallies.{totals, counted}
-use Rattle.sheet.specs.Judged.{judged_by, judged_of, without_round}
+use Rattle.sheet_again.specs.Tallies.{totals}
+use Rattle.sheet.specs.Judged.{judged_by, judged_of, without_round, in_round}
 
 -- number 7 is the last
 last : (b : Bool) (set : Set) → cond b (Err AgainPair) (Ok set) ≡ judged_by (cond b (Some 7) None) set
@@ -93,8 +93,8 @@ module _ (limits : Limits) (intercept : ℤ) (n : ℕ) (l : List ℤ) where
         thirds : any (wrong_third limits) (samples_of l) ≡ false
         thirds = sym (ap (λ (u : Found). u.third) same) ∙ third
 
-        pub judged_in_round : c ≡ true → counted limits intercept (samples_of l) ≡ judged_of limits intercept n l
-        unfolding judged_of sheet_checks set_of kept_samples totals counted
+        pub judged_in_round : c ≡ true → in_round limits intercept (samples_of l) ≡ judged_of limits intercept n l
+        unfolding judged_of sheet_checks set_of kept_samples totals in_round
         judged_in_round e = simp (eq-eqb (length l) (6 * n) size, right, thirds, round_is round e) (last (any (wrong_again limits intercept true) (samples_of l)) _)
 
         pub judged_without : c ≡ false → without_round t.again t.sum n ≡ judged_of limits intercept n l

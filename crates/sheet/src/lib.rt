@@ -2,9 +2,11 @@
 
 #![tactic(auto)]
 
-ghost use Rattle.std.specs.Prelude.{◌≡◌, ◌≤◌};
+ghost use Rattle.std.specs.Prelude.{◌≡◌, ◌≤◌, false, length};
 ghost use Rattle.whole.specs.Bounds.{Within};
-ghost use Rattle.sheet.specs.Judged.{judged_of, without_round};
+ghost use Rattle.whole.specs.Lists.{any};
+ghost use Rattle.station_rules.specs.Sheets.{samples_of, wrong_number};
+ghost use Rattle.sheet.specs.Judged.{judged_of, without_round, in_round};
 
 use sheet_pass::Found;
 use sheet_sample::Terms;
@@ -25,6 +27,18 @@ fn without_round(found: Found, samples: usize) -> Result<Set, Refusal>
 }
 
 // In an again round the samples are passed over once more.
+#[tactic(auto, unfolding(sheet_again::specs::Tallies::counted, crate::specs::Judged::in_round))]
+fn in_round(terms: Terms, numbers: &[i32]) -> Result<Set, Refusal>
+    requires { (length numbers.now ≤ 6000) × (any wrong_number (samples_of numbers.now) ≡ false) }
+    ensures { result ≡ in_round terms.limits terms.intercept (samples_of numbers.now) }
+{
+    let tally = sheet_again::counted(terms, numbers);
+    if tally.wrong {
+        return Err(Refusal::AgainPair);
+    }
+    Ok(tally.set)
+}
+
 pub fn judge(
     limits: Limits,
     intercept: i32,
@@ -43,7 +57,7 @@ pub fn judge(
         return Err(Refusal::ThirdReading);
     }
     if sheet_pass::again_round(limits, found.span) {
-        sheet_again::counted(terms, numbers)
+        in_round(terms, numbers)
     } else {
         without_round(found, samples)
     }

@@ -1,8 +1,7 @@
 -- S and N as a pass over the samples.
-use mathlib.Core.Path.{◌≡◌, refl, sym, ap, ◌∙◌}
-use mathlib.Core.Bool.{Bool, true, false, not, ◌&&◌, cond}
+use mathlib.Core.Path.{◌≡◌, refl, sym, ap, ◌∙◌, subst⁻¹}
+use mathlib.Core.Bool.{Bool, true, false, not, ◌&&◌, ◌||◌, cond}
 use mathlib.Core.List.{List, [], ◌∷◌, map}
-use Rattle.std.specs.Prelude.{Ok, Err}
 use Prim.Native.Nat.{ℕ, suc, ◌+◌, ◌*◌, ◌≤◌}
 use native.Mathlib.Omega.{arith}
 use lib.IntN.{ℤ, pos, ◌+ℤ◌, +ℤ_assoc, +ℤ_idl, +ℤ_idr}
@@ -12,21 +11,20 @@ use Rattle.whole.specs.Bounds.{Within}
 use Rattle.whole.specs.Lists.{any, total}
 use Rattle.whole.proofs.Tests.{or_none}
 use Rattle.std.specs.List.{fold}
-use Rattle.whole.proofs.ListLaws.{by_test, cond_yes, cond_no}
+use Rattle.whole.proofs.ListLaws.{by_test, cond_yes, cond_no, or_else, any_fold}
 use Rattle.station_rules.specs.Lists.{keep}
 use Rattle.station_rules.specs.Sheets.{samples_of, wrong_number, pair, pair_sum, deviation, deviates, first_deviation, final_deviation, wrong_again, kept}
 use Rattle.station_rules.specs.declared.Sample.{Sample}
 use Rattle.station_rules.specs.declared.Limits.{Limits}
 use Rattle.station_rules.specs.declared.Set.{Set}
 use Rattle.station_rules.proofs.SheetBounds.{length_samples}
-use Rattle.station_refusals.specs.declared.Refusal.{Refusal}
-use Rattle.station_refusals.specs.declared.Refusal.TheVariants.{AgainPair}
 use Rattle.sheet_numbers.specs.Samples.{Measured}
 use Rattle.sheet_numbers.proofs.SampleLaws.{measured}
-use Rattle.sheet_numbers.proofs.SheetLaws.{accepted_by, refused_by, passed_is, Going, going_next, going_stop}
 use Rattle.sheet_sample.specs.Rounds.{in_round}
+use Rattle.sheet_sample.specs.declared.Again.{Again}
 use Rattle.sheet_sample.proofs.DeviationLaws.{final_within}
 use Rattle.sheet_again.specs.Tallies.{tallied, totals, added, counted}
+use Rattle.sheet_again.specs.declared.Tally.{Tally}
 
 abbrev pub none : Set
 none = record { sum = pos 0; count = 0 }
@@ -41,30 +39,30 @@ module _ (limits : Limits) (intercept : ℤ) where
       by_test (deviates limits first) (λ (b : Bool). not (b && deviates limits (cond b again first)) ≡ not (deviates limits (cond b again first)))
       (λ e. refl) (λ e. sym (ap not e))
 
-  round_gives : (s : Sample) {d : ℤ} → Ok d ≡ in_round limits intercept s → (wrong_again limits intercept true s ≡ false) × (d ≡ final_deviation limits intercept true s)
+  round_gives : (s : Sample) {a : Again} → a ≡ in_round limits intercept s → (a.wrong ≡ wrong_again limits intercept true s) × (a.deviation ≡ final_deviation limits intercept true s)
   unfolding in_round
-  round_gives s e = accepted_by (wrong_again limits intercept true s) _ e
+  round_gives s e = (ap (λ (a : Again). a.wrong) e, ap (λ (a : Again). a.deviation) e)
 
-  pub refused : (t : Set) (s : Sample) {r : Refusal} → Err r ≡ in_round limits intercept s → Err r ≡ added limits intercept t s
-  unfolding in_round added
-  refused t s e =
-      let a = refused_by (wrong_again limits intercept true s) _ e in
-      ap Err a.1 ∙ cond_yes _ _ refl a.0
+  -- one sample more, from what the code finds of it
+  module _ (t : Tally) (s : Sample) {a : Again} {wrong b : Bool} (e : a ≡ in_round limits intercept s) (either : wrong ≡ t.wrong || a.wrong) (test : b ≡ deviates limits a.deviation) where
+    due : wrong ≡ t.wrong || wrong_again limits intercept true s
+    due = either ∙ ap (λ (again : Bool). t.wrong || again) (round_gives s e).0
 
-  module _ (t : Set) (s : Sample) {d : ℤ} {b : Bool} (e : Ok d ≡ in_round limits intercept s) (test : b ≡ deviates limits d) where
     still : b ≡ deviates limits (final_deviation limits intercept true s)
     still = test ∙ ap (deviates limits) (round_gives s e).1
 
-    pub dropped : b ≡ true → Ok t ≡ added limits intercept t s
+    pub dropped : b ≡ true → ◌≡◌ {A = Tally} (record { wrong = wrong; set = t.set }) (added limits intercept t s)
     unfolding added tallied
     dropped k =
-        ap Ok (cond_no _ _ (sym (kept_is s)) (ap not (sym still ∙ k))) ∙ cond_no _ _ refl (round_gives s e).0
+        let set = cond_no _ _ (sym (kept_is s)) (ap not (sym still ∙ k)) in
+        λ i. record { wrong = due i; set = set i }
 
-    pub joins : b ≡ false → {r : ℤ} → r ≡ t.sum +ℤ d → Ok (record { sum = r; count = t.count + 2 }) ≡ added limits intercept t s
+    pub joins : b ≡ false → {r : ℤ} → r ≡ t.set.sum +ℤ a.deviation → ◌≡◌ {A = Tally} (record { wrong = wrong; set = record { sum = r; count = t.set.count + 2 } }) (added limits intercept t s)
     unfolding added tallied
-    joins k f =
-        ap Ok ((λ i. record { sum = (f ∙ ap (λ (z : ℤ). t.sum +ℤ z) (round_gives s e).1) i; count = t.count + 2 }) ∙ cond_yes _ _ (sym (kept_is s)) (ap not (sym still ∙ k)))
-        ∙ cond_no _ _ refl (round_gives s e).0
+    joins k {r} f =
+        let sum : r ≡ t.set.sum +ℤ final_deviation limits intercept true s = f ∙ ap (λ (z : ℤ). t.set.sum +ℤ z) (round_gives s e).1 in
+        let set = (λ i. record { sum = sum i; count = t.set.count + 2 }) ∙ cond_yes _ _ (sym (kept_is s)) (ap not (sym still ∙ k)) in
+        λ i. record { wrong = due i; set = set i }
 
   abbrev plus : Set → Set → Set
   plus a b = record { sum = a.sum +ℤ b.sum; count = a.count + b.count }
@@ -98,6 +96,19 @@ module _ (limits : Limits) (intercept : ℤ) where
       let e : 0 + t.count ≡ t.count = omega arith in
       totals_from none ss ∙ (λ i. record { sum = +ℤ_idl t.sum i; count = e i })
 
+  -- all samples, one after another
+  added_fold : (t : Tally) (ss : List Sample)
+      → ◌≡◌ {A = Tally} (fold (added limits intercept) t ss) (record { wrong = fold (or_else (wrong_again limits intercept true)) t.wrong ss; set = fold (tallied limits intercept) t.set ss })
+  unfolding added
+  added_fold t [] = refl
+  added_fold t (s ∷ ss) = added_fold (added limits intercept t s) ss
+
+  counted_fold : (ss : List Sample) → fold (added limits intercept) (record { wrong = false; set = none }) ss ≡ counted limits intercept ss
+  unfolding counted
+  counted_fold ss =
+      added_fold (record { wrong = false; set = none }) ss
+      ∙ (λ i. record { wrong = any_fold (wrong_again limits intercept true) ss i; set = totals_fold ss i })
+
 -- ---- the loop
 
 -- how far S and N of n samples go
@@ -115,39 +126,41 @@ module _ (limits : Limits) (intercept : ℤ) (small : Within 1000 1000 intercept
       (λ e. record { sum = record { over = omega (arith, ints, b.sum.over); under = omega (arith, ints, b.sum.under) }; count = omega (arith, b.count) })
 
   -- with some of the sheet's samples left, none of them with a wrong number
-  pub record Counting (numbers : List ℤ) (left : List Sample) (t : Set) : Type 0 where
+  pub record Counting (numbers : List ℤ) (left : List Sample) (t : Tally) : Type 0 where
     pub right : any wrong_number left ≡ false
-    pub going : Going (wrong_again limits intercept true) AgainPair (tallied limits intercept) Bounded (counted limits intercept (samples_of numbers)) left t
+    pub comes : fold (added limits intercept) t left ≡ counted limits intercept (samples_of numbers)
+    pub before : ℕ
+    pub few : before + length left ≤ 1000
+    pub bounded : Bounded before t.set
 
-  pub counting_start : (numbers : List ℤ) → length numbers ≤ 6000 → any wrong_number (samples_of numbers) ≡ false → Counting numbers (samples_of numbers) none
-  unfolding counted
+  pub counting_start : (numbers : List ℤ) → length numbers ≤ 6000 → any wrong_number (samples_of numbers) ≡ false → Counting numbers (samples_of numbers) (record { wrong = false; set = none })
   counting_start numbers few right =
       record {
         right = right;
-        going = record {
-          comes = passed_is (wrong_again limits intercept true) AgainPair (tallied limits intercept) none (samples_of numbers)
-              ∙ ap (λ (t : Set). cond (any (wrong_again limits intercept true) (samples_of numbers)) (Err AgainPair) (Ok t)) (totals_fold limits intercept (samples_of numbers));
-          before = 0;
-          few = omega (arith, length_samples numbers);
-          bounded = record { sum = record { over = omega (arith, ints); under = omega (arith, ints) }; count = omega arith };
-        };
+        comes = counted_fold limits intercept (samples_of numbers);
+        before = 0;
+        few = omega (arith, length_samples numbers);
+        bounded = record { sum = record { over = omega (arith, ints); under = omega (arith, ints) }; count = omega arith };
       }
 
-  module _ (numbers : List ℤ) {left rest : List Sample} {t : Set} (g : Counting numbers left t) (s : Sample) (split : left ≡ s ∷ rest) where
+  pub counting_end : (numbers : List ℤ) {left : List Sample} {t : Tally} → Counting numbers left t → left ≡ [] → t ≡ counted limits intercept (samples_of numbers)
+  counting_end numbers {left} {t} g end = sym (ap (fold (added limits intercept) t) end) ∙ g.comes
+
+  module _ (numbers : List ℤ) {left rest : List Sample} {t : Tally} (g : Counting numbers left t) (s : Sample) (split : left ≡ s ∷ rest) where
     parts_right : (wrong_number s ≡ false) × (any wrong_number rest ≡ false)
     parts_right = or_none _ _ (ap (any wrong_number) (sym split) ∙ g.right)
 
     pub next_measured : Measured s
     next_measured = measured s parts_right.0
 
-    pub counting_next : {r : Set} → Ok r ≡ added limits intercept t s → Counting numbers rest r
+    pub counting_next : {r : Tally} → r ≡ added limits intercept t s → Counting numbers rest r
     unfolding added
-    counting_next e =
+    counting_next {r} e =
+        let count : length left ≡ suc (length rest) = ap length split in
         record {
           right = parts_right.1;
-          going = going_next (wrong_again limits intercept true) AgainPair (tallied limits intercept) Bounded _ g.going s split (λ n _ b. tallied_bounded t s next_measured b) e;
+          comes = ap (λ (u : Tally). fold (added limits intercept) u rest) e ∙ sym (ap (fold (added limits intercept) t) split) ∙ g.comes;
+          before = g.before + 1;
+          few = omega (arith, g.few);
+          bounded = subst⁻¹ (λ (u : Tally). Bounded (g.before + 1) u.set) e (tallied_bounded t.set s next_measured g.bounded);
         }
-
-    pub counting_stop : {x : Refusal} → Err x ≡ added limits intercept t s → Err x ≡ counted limits intercept (samples_of numbers)
-    unfolding added
-    counting_stop e = going_stop (wrong_again limits intercept true) AgainPair (tallied limits intercept) Bounded _ g.going s split e

@@ -1,13 +1,12 @@
 -- For the proofs of the code, no rule: number 7, S and N in an again round (docs/SPECIFICATION.md, "The reference sheet", rules 3 and 4).
-use Rattle.std.specs.Prelude.{Result, Ok, Err, true, cond, List, map, ◌+◌, ◌*◌, ℤ, ◌+ℤ◌, length}
+use Rattle.std.specs.Prelude.{true, ◌||◌, cond, List, map, ◌+◌, ◌*◌, ℤ, ◌+ℤ◌, length}
 use Rattle.whole.specs.Lists.{any, total}
 use Rattle.station_rules.specs.Lists.{keep}
 use Rattle.station_rules.specs.Sheets.{wrong_again, final_deviation, kept}
 use Rattle.station_rules.specs.declared.Sample.{Sample}
 use Rattle.station_rules.specs.declared.Limits.{Limits}
 use Rattle.station_rules.specs.declared.Set.{Set}
-use Rattle.station_refusals.specs.declared.Refusal.{Refusal}
-use Rattle.station_refusals.specs.declared.Refusal.TheVariants.{AgainPair}
+use Rattle.sheet_again.specs.declared.Tally.{Tally}
 
 module _ (limits : Limits) (intercept : ℤ) where
   -- a kept sample's deviation joins S, and 2 joins N
@@ -23,10 +22,10 @@ module _ (limits : Limits) (intercept : ℤ) where
         count = 2 * length (keep (kept limits intercept true) ss);
       }
 
-  -- one sample more: number 7, else S and N with it
-  unfoldable pub added : Set → Sample → Result Set Refusal
-  added t s = cond (wrong_again limits intercept true s) (Err AgainPair) (Ok (tallied t s))
+  -- one sample more: number 7, and S and N with it
+  unfoldable pub added : Tally → Sample → Tally
+  added t s = record { wrong = t.wrong || wrong_again limits intercept true s; set = tallied t.set s }
 
-  -- all samples: number 7, else S and N
-  unfoldable pub counted : List Sample → Result Set Refusal
-  counted ss = cond (any (wrong_again limits intercept true) ss) (Err AgainPair) (Ok (totals ss))
+  -- all samples: number 7, and S and N, whether or not 7 applies
+  unfoldable pub counted : List Sample → Tally
+  counted ss = record { wrong = any (wrong_again limits intercept true) ss; set = totals ss }

@@ -2,14 +2,14 @@
 
 #![tactic(auto)]
 
-ghost use Rattle.std.specs.Prelude.{◌≡◌, IfOk};
+ghost use Rattle.std.specs.Prelude.{◌≡◌};
 ghost use Rattle.whole.specs.Bounds.{Within};
 ghost use Rattle.station_rules.specs.Sheets.{third_due, wrong_third, used_pair, pair_sum, deviation, deviates, first_deviation};
 ghost use Rattle.sheet_pairs.specs.Pairs.{pair_of, Small};
 ghost use Rattle.sheet_sample.specs.Rounds.{in_round};
 
 use sheet_numbers::MeasuredSample;
-use station_rules::{Limits, Refusal, Sample};
+use station_rules::{Limits, Sample};
 
 // First and second differ by more than the pair limit.
 #[tactic(auto, unfolding(station_rules::specs::Sheets::third_due))]
@@ -32,6 +32,13 @@ pub fn is_deviating(limits: Limits, d: i32) -> bool
     ensures { result ≡ deviates limits d }
 {
     2 * u64::from(limits.sample) < u64::from(d.unsigned_abs())
+}
+
+// What an again round makes of a sample: number 7, and its deviation, also where 7 applies.
+#[derive(Clone, Copy)]
+pub struct Again {
+    pub wrong: bool,
+    pub deviation: i32,
 }
 
 // A line's limits and its intercept, by which no deviation wraps.
@@ -70,21 +77,26 @@ impl Terms {
         self.deviation_of(s.sample.baseline, self.used_pair(s))
     }
 
-    // In an again round an again pair is due for each deviating sample (number 7), and its deviation is worked out anew from it.
+    // In an again round an again pair is due for each deviating sample (number 7), and its deviation is worked out anew
+    // from it.
     #[tactic(auto, unfolding(station_rules::specs::Sheets::final_deviation, crate::specs::Rounds::in_round))]
-    pub fn in_round(self, s: MeasuredSample) -> Result<i32, Refusal>
+    pub fn in_round(self, s: MeasuredSample) -> Again
         ensures is { result ≡ in_round self.limits self.intercept s.sample }
-        ensures small { IfOk result (Within 25000 25000) }
+        ensures small { Within 25000 25000 result.deviation }
     {
         let first = self.first_deviation(s);
         let due = is_deviating(self.limits, first);
-        if due != sheet_numbers::has_again(s.sample) {
-            return Err(Refusal::AgainPair);
-        }
+        let wrong = due != sheet_numbers::has_again(s.sample);
         if !due {
-            return Ok(first);
+            return Again {
+                wrong,
+                deviation: first,
+            };
         }
         let s = s.sample;
-        Ok(self.deviation_of(s.baseline, [s.again_first, s.again_second]))
+        Again {
+            wrong,
+            deviation: self.deviation_of(s.baseline, [s.again_first, s.again_second]),
+        }
     }
 }

@@ -25,8 +25,8 @@ returns-then-found c =
     let found = simp to_z-of_z at c.in_ok-found.ensures.is in
     third_refused s.limits s.intercept s.samples s.numbers.now c.if-numbers-samples.false found c.if-found.true
 
-pub counted-requires : goal.counted-requires
-counted-requires c =
+pub in_round-requires : goal.in_round-requires
+in_round-requires c =
     (omega arith, (found_right c.args.limits _ _ c.in_ok-found.ensures.is).0)
 
 pub returns-then-again_round : goal.returns-then-again_round
@@ -34,8 +34,8 @@ returns-then-again_round c =
     let s = c.args in
     let fits = c.ranges.intercept in
     let found = simp to_z-of_z at c.in_ok-found.ensures.is in
-    let counted = simp to_z-of_z at c.counted.ensures.is in
-    counted ∙ judged_in_round s.limits s.intercept s.samples s.numbers.now c.if-numbers-samples.false found c.if-found.false c.again_round.ensures c.if-again_round.true
+    let round = simp to_z-of_z at c.in_round.ensures in
+    round ∙ judged_in_round s.limits s.intercept s.samples s.numbers.now c.if-numbers-samples.false found c.if-found.false c.again_round.ensures c.if-again_round.true
 
 pub returns-else-again_round : goal.returns-else-again_round
 returns-else-again_round c =
