@@ -30,11 +30,11 @@ pub ruleset spans = (to_z-of_z, larger_is, smaller_is)
 
 -- ---- from a bound
 
-above_bound : (z : ℤ) → Within 25000 25000 z → larger_of (negsuc 24999) z ≡ z
+pub above_bound : (z : ℤ) → Within 25000 25000 z → larger_of (negsuc 24999) z ≡ z
 above_bound (pos n) w = refl
 above_bound (negsuc n) w = ap (λ (b : Bool). cond b (negsuc n) (negsuc 24999)) (le-leb n 24999 (omega (arith, ints, w.over)))
 
-below_bound : (z : ℤ) → Within 25000 25000 z → smaller_of (pos 25000) z ≡ z
+pub below_bound : (z : ℤ) → Within 25000 25000 z → smaller_of (pos 25000) z ≡ z
 below_bound z w = smaller_comm (pos 25000) z ∙ ap (λ (b : Bool). cond b z (pos 25000)) (at_most z w)
   where
     at_most : (z : ℤ) → Within 25000 25000 z → le_z z (pos 25000) ≡ true
