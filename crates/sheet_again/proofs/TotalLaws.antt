@@ -29,6 +29,13 @@ use Rattle.sheet_again.specs.declared.Tally.{Tally}
 abbrev pub none : Set
 none = record { sum = pos 0; count = 0 }
 
+abbrev pub tally : Bool → Set → Tally
+tally wrong set = record { wrong = wrong; set = set }
+
+-- before any sample
+abbrev pub nothing : Tally
+nothing = tally false none
+
 module _ (limits : Limits) (intercept : ℤ) where
   -- a sample that deviates no more, or never did, is kept
   pub kept_is : (s : Sample) → kept limits intercept true s ≡ not (deviates limits (final_deviation limits intercept true s))
@@ -39,30 +46,33 @@ module _ (limits : Limits) (intercept : ℤ) where
       by_test (deviates limits first) (λ (b : Bool). not (b && deviates limits (cond b again first)) ≡ not (deviates limits (cond b again first)))
       (λ e. refl) (λ e. sym (ap not e))
 
-  round_gives : (s : Sample) {a : Again} → a ≡ in_round limits intercept s → (a.wrong ≡ wrong_again limits intercept true s) × (a.deviation ≡ final_deviation limits intercept true s)
+  round_gives : (s : Sample) {a : Again} → a ≡ in_round limits intercept s
+      → (a.wrong ≡ wrong_again limits intercept true s) × (a.deviation ≡ final_deviation limits intercept true s)
   unfolding in_round
   round_gives s e = (ap (λ (a : Again). a.wrong) e, ap (λ (a : Again). a.deviation) e)
 
   -- one sample more, from what the code finds of it
-  module _ (t : Tally) (s : Sample) {a : Again} {wrong b : Bool} (e : a ≡ in_round limits intercept s) (either : wrong ≡ t.wrong || a.wrong) (test : b ≡ deviates limits a.deviation) where
+  module _ (t : Tally) (s : Sample) {a : Again} {wrong b : Bool} (e : a ≡ in_round limits intercept s)
+      (either : wrong ≡ t.wrong || a.wrong) (test : b ≡ deviates limits a.deviation) where
     due : wrong ≡ t.wrong || wrong_again limits intercept true s
     due = either ∙ ap (λ (again : Bool). t.wrong || again) (round_gives s e).0
 
     still : b ≡ deviates limits (final_deviation limits intercept true s)
     still = test ∙ ap (deviates limits) (round_gives s e).1
 
-    pub dropped : b ≡ true → ◌≡◌ {A = Tally} (record { wrong = wrong; set = t.set }) (added limits intercept t s)
+    pub dropped : b ≡ true → tally wrong t.set ≡ added limits intercept t s
     unfolding added tallied
     dropped k =
         let set = cond_no _ _ (sym (kept_is s)) (ap not (sym still ∙ k)) in
-        λ i. record { wrong = due i; set = set i }
+        λ i. tally (due i) (set i)
 
-    pub joins : b ≡ false → {r : ℤ} → r ≡ t.set.sum +ℤ a.deviation → ◌≡◌ {A = Tally} (record { wrong = wrong; set = record { sum = r; count = t.set.count + 2 } }) (added limits intercept t s)
+    pub joins : b ≡ false → {r : ℤ} → r ≡ t.set.sum +ℤ a.deviation
+        → tally wrong (record { sum = r; count = t.set.count + 2 }) ≡ added limits intercept t s
     unfolding added tallied
-    joins k {r} f =
-        let sum : r ≡ t.set.sum +ℤ final_deviation limits intercept true s = f ∙ ap (λ (z : ℤ). t.set.sum +ℤ z) (round_gives s e).1 in
-        let set = (λ i. record { sum = sum i; count = t.set.count + 2 }) ∙ cond_yes _ _ (sym (kept_is s)) (ap not (sym still ∙ k)) in
-        λ i. record { wrong = due i; set = set i }
+    joins k f =
+        let sum = f ∙ ap (λ (z : ℤ). t.set.sum +ℤ z) (round_gives s e).1 in
+        let kept = cond_yes _ _ (sym (kept_is s)) (ap not (sym still ∙ k)) in
+        λ i. tally (due i) (((λ j. record { sum = sum j; count = t.set.count + 2 }) ∙ kept) i)
 
   abbrev plus : Set → Set → Set
   plus a b = record { sum = a.sum +ℤ b.sum; count = a.count + b.count }
@@ -97,17 +107,16 @@ module _ (limits : Limits) (intercept : ℤ) where
       totals_from none ss ∙ (λ i. record { sum = +ℤ_idl t.sum i; count = e i })
 
   -- all samples, one after another
-  added_fold : (t : Tally) (ss : List Sample)
-      → ◌≡◌ {A = Tally} (fold (added limits intercept) t ss) (record { wrong = fold (or_else (wrong_again limits intercept true)) t.wrong ss; set = fold (tallied limits intercept) t.set ss })
+  added_fold : (t : Tally) (ss : List Sample) → fold (added limits intercept) t ss
+      ≡ tally (fold (or_else (wrong_again limits intercept true)) t.wrong ss) (fold (tallied limits intercept) t.set ss)
   unfolding added
   added_fold t [] = refl
   added_fold t (s ∷ ss) = added_fold (added limits intercept t s) ss
 
-  counted_fold : (ss : List Sample) → fold (added limits intercept) (record { wrong = false; set = none }) ss ≡ counted limits intercept ss
+  counted_fold : (ss : List Sample) → fold (added limits intercept) nothing ss ≡ counted limits intercept ss
   unfolding counted
   counted_fold ss =
-      added_fold (record { wrong = false; set = none }) ss
-      ∙ (λ i. record { wrong = any_fold (wrong_again limits intercept true) ss i; set = totals_fold ss i })
+      added_fold nothing ss ∙ (λ i. tally (any_fold (wrong_again limits intercept true) ss i) (totals_fold ss i))
 
 -- ---- the loop
 
@@ -133,20 +142,26 @@ module _ (limits : Limits) (intercept : ℤ) (small : Within 1000 1000 intercept
     pub few : before + length left ≤ 1000
     pub bounded : Bounded before t.set
 
-  pub counting_start : (numbers : List ℤ) → length numbers ≤ 6000 → any wrong_number (samples_of numbers) ≡ false → Counting numbers (samples_of numbers) (record { wrong = false; set = none })
+  pub counting_start : (numbers : List ℤ) → length numbers ≤ 6000 → any wrong_number (samples_of numbers) ≡ false
+      → Counting numbers (samples_of numbers) nothing
   counting_start numbers few right =
       record {
         right = right;
         comes = counted_fold limits intercept (samples_of numbers);
         before = 0;
         few = omega (arith, length_samples numbers);
-        bounded = record { sum = record { over = omega (arith, ints); under = omega (arith, ints) }; count = omega arith };
+        bounded = record {
+          sum = record { over = omega (arith, ints); under = omega (arith, ints) };
+          count = omega arith;
+        };
       }
 
-  pub counting_end : (numbers : List ℤ) {left : List Sample} {t : Tally} → Counting numbers left t → left ≡ [] → t ≡ counted limits intercept (samples_of numbers)
+  pub counting_end : (numbers : List ℤ) {left : List Sample} {t : Tally} → Counting numbers left t → left ≡ []
+      → t ≡ counted limits intercept (samples_of numbers)
   counting_end numbers {left} {t} g end = sym (ap (fold (added limits intercept) t) end) ∙ g.comes
 
-  module _ (numbers : List ℤ) {left rest : List Sample} {t : Tally} (g : Counting numbers left t) (s : Sample) (split : left ≡ s ∷ rest) where
+  module _ (numbers : List ℤ) {left rest : List Sample} {t : Tally} (g : Counting numbers left t)
+      (s : Sample) (split : left ≡ s ∷ rest) where
     parts_right : (wrong_number s ≡ false) × (any wrong_number rest ≡ false)
     parts_right = or_none _ _ (ap (any wrong_number) (sym split) ∙ g.right)
 
@@ -156,11 +171,13 @@ module _ (limits : Limits) (intercept : ℤ) (small : Within 1000 1000 intercept
     pub counting_next : {r : Tally} → r ≡ added limits intercept t s → Counting numbers rest r
     unfolding added
     counting_next {r} e =
+        let more = fold (added limits intercept) in
         let count : length left ≡ suc (length rest) = ap length split in
+        let next = tallied_bounded t.set s next_measured g.bounded in
         record {
           right = parts_right.1;
-          comes = ap (λ (u : Tally). fold (added limits intercept) u rest) e ∙ sym (ap (fold (added limits intercept) t) split) ∙ g.comes;
+          comes = ap (λ (u : Tally). more u rest) e ∙ sym (ap (more t) split) ∙ g.comes;
           before = g.before + 1;
           few = omega (arith, g.few);
-          bounded = subst⁻¹ (λ (u : Tally). Bounded (g.before + 1) u.set) e (tallied_bounded t.set s next_measured g.bounded);
+          bounded = subst⁻¹ (λ (u : Tally). Bounded (g.before + 1) u.set) e next;
         }

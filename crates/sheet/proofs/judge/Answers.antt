@@ -35,7 +35,9 @@ returns-then-again_round c =
     let fits = c.ranges.intercept in
     let found = simp to_z-of_z at c.in_ok-found.ensures.is in
     let round = simp to_z-of_z at c.in_round.ensures in
-    round ∙ judged_in_round s.limits s.intercept s.samples s.numbers.now c.if-numbers-samples.false found c.if-found.false c.again_round.ensures c.if-again_round.true
+    round
+    ∙ judged_in_round s.limits s.intercept s.samples s.numbers.now c.if-numbers-samples.false found c.if-found.false
+    c.again_round.ensures c.if-again_round.true
 
 pub returns-else-again_round : goal.returns-else-again_round
 returns-else-again_round c =

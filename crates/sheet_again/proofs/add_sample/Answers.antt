@@ -21,4 +21,5 @@ returns c =
     let either : c.if-t.wrong ≡ a.t.wrong || again.result.wrong = grind arith in
     let test : c.is_deviating.result ≡ deviates a.terms.limits again.result.deviation = grind (arith, to_z-of_z) in
     let small = again.ensures.small in
-    joins a.terms.limits a.terms.intercept a.t a.s.sample again.ensures.is either test c.if-is_deviating.false (omega (arith, ints, small.over, small.under))
+    joins a.terms.limits a.terms.intercept a.t a.s.sample again.ensures.is either test c.if-is_deviating.false
+    (omega (arith, ints, small.over, small.under))

@@ -12,7 +12,8 @@ loop-sample-init c =
 pub loop-sample-preserved : goal.loop-sample-preserved
 loop-sample-preserved c =
     let t = c.args.terms in
-    counting_next t.limits t.intercept t.small _ c.loop-sample.invariant _ c.in-Some.ensures.steps c.add_sample-t.ensures
+    let steps = c.in-Some.ensures.steps in
+    counting_next t.limits t.intercept t.small _ c.loop-sample.invariant _ steps c.add_sample-t.ensures
 
 pub returns-clause-is : goal.returns-clause-is
 returns-clause-is c =
