@@ -53,7 +53,7 @@
 #include <stddef.h>
 #include <stdint.h>
 
-#define GRAIN_VERSION "0.9.0"
+#define GRAIN_VERSION "0.9.1"
 
 /* The number of stored states: it changes whenever struct grain_station or struct grain_chart does, or what their
  * fields mean. Store it beside each state. One stored under another number is not to be used before it is carried
