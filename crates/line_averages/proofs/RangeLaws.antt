@@ -1,8 +1,7 @@
 -- The limits of the tests due, and tests and sums within their ranges.
-use mathlib.Core.Path.{◌≡◌, refl, subst⁻¹}
-use mathlib.Core.Bool.{Bool, true, false, cond}
-use mathlib.Core.List.{List, [], ◌∷◌, ◌++◌}
-use Rattle.std.specs.Prelude.{Option, Some, ◌≤ℤ◌}
+use mathlib.Core.Path.{◌≡◌, refl, sym, subst⁻¹}
+use mathlib.Core.List.{List}
+use Rattle.std.specs.Prelude.{Option, Some, None, ◌≤ℤ◌}
 use Prim.Native.Nat.{ℕ, ◌+◌, ◌*◌, ◌≤◌, ◌<◌}
 use native.Mathlib.Nat.{le_trans, mul-le-mul_left, mul-le-mul_right}
 use native.Mathlib.Omega.{arith}
@@ -11,7 +10,8 @@ use lib.IntN.{pos, neg_ℤ}
 use Rattle.std.proofs.lemmas.Int.{ints}
 use Rattle.station_rules.specs.Rows.{line_count, limits_of}
 use Rattle.station_rules.proofs.RowFacts.{row_facts}
-use Rattle.station_rules.specs.Lines.{LinePhase, new_line, open_line, adjusted_line, shut_line, exceeded, same_side, test_of, plus, newest_tests, five_test, tests_by, first_exceeded}
+use Rattle.station_rules.proofs.DueTests.{OfLimits, due_each, first_each}
+use Rattle.station_rules.specs.Lines.{LinePhase, test_of, plus, tests_by, first_exceeded}
 use Rattle.station_rules.specs.declared.Limits.{Limits}
 use Rattle.station_rules.specs.declared.Set.{Set}
 use Rattle.station_rules.specs.declared.Test.{Test}
@@ -22,52 +22,22 @@ use Rattle.line_averages.specs.Ranges.{TestFits, Limited, FoundLimited}
 
 -- ---- the limits of the tests due
 
-abbrev AllLimited : List Test → Type 0
-AllLimited [] = Unit {0}
-AllLimited (t ∷ ts) = (t.limit ≤ 1000) × AllLimited ts
+abbrev SmallLimit : Test → Type 0
+SmallLimit t = t.limit ≤ 1000
 
-module _ (limits : Limits) (h : Limited limits) (set : Set) where
-  newest_limited : (newest : List PastSet) (ts : List Test) → AllLimited ts
-      → AllLimited (newest_tests limits set newest ++ ts)
-  unfolding newest_tests
-  newest_limited [] ts f = (h.one, f)
-  newest_limited (p ∷ []) ts f = (h.one, (h.two, f))
-  newest_limited (p ∷ q ∷ older) ts f = (h.one, (h.two, (h.three, f)))
-
-  five_limited : (nonzero : List PastSet) → AllLimited (five_test limits set nonzero)
-  unfolding five_test
-  five_limited [] = tt
-  five_limited (p ∷ []) = tt
-  five_limited (p ∷ q ∷ []) = tt
-  five_limited (p ∷ q ∷ r ∷ []) = tt
-  five_limited (p ∷ q ∷ r ∷ s ∷ older) = go (same_side set.sum p.sum q.sum r.sum s.sum)
-    where
-      go : (b : Bool) → AllLimited (cond b (test_of limits.five (plus (plus (plus (plus set p) q) r) s) ∷ []) [])
-      go true = (h.five, tt)
-      go false = tt
-
-  due_limited : (phase : LinePhase) (newest nonzero : List PastSet)
-      → AllLimited (tests_by limits phase set newest nonzero)
-  unfolding tests_by
-  due_limited new_line newest nonzero = newest_limited newest (five_test limits set nonzero) (five_limited nonzero)
-  due_limited open_line newest nonzero = newest_limited newest (five_test limits set nonzero) (five_limited nonzero)
-  due_limited adjusted_line newest nonzero = (h.check, tt)
-  due_limited shut_line newest nonzero = (h.check, tt)
-
-first_limited : (ts : List Test) → AllLimited ts → FoundLimited (first_exceeded ts)
-first_limited [] f = tt
-first_limited (t ∷ ts) f = go (exceeded t) (first_limited ts f.1)
+-- the test found among them has such a limit
+pub found_limited : (limits : Limits) (phase : LinePhase) (set : Set) (newest nonzero : List PastSet) {found : Option Test}
+    → found ≡ first_exceeded (tests_by limits phase set newest nonzero) → Limited limits → FoundLimited found
+found_limited limits phase set newest nonzero {found} e h = go found e
   where
-    go : (b : Bool) → FoundLimited (first_exceeded ts) → FoundLimited (cond b (Some t) (first_exceeded ts))
-    go true ih = f.0
-    go false ih = ih
+    all : OfLimits SmallLimit limits set
+    all = record { one = h.one; two = λ p. h.two; three = λ p q. h.three; five = λ p q r s. h.five; check = h.check }
 
--- so the test found among them has such a limit
-pub found_limited : (limits : Limits) (phase : LinePhase) (set : Set) (newest nonzero : List PastSet)
-    → {found : Option Test} → found ≡ first_exceeded (tests_by limits phase set newest nonzero) → Limited limits → FoundLimited found
-found_limited limits phase set newest nonzero e h =
-    let tests = tests_by limits phase set newest nonzero in
-    subst⁻¹ FoundLimited e (first_limited tests (due_limited limits h set phase newest nonzero))
+    go : (o : Option Test) → o ≡ first_exceeded (tests_by limits phase set newest nonzero) → FoundLimited o
+    go None g = tt
+    go (Some t) g =
+        let due = due_each SmallLimit limits set all phase newest nonzero in
+        (first_each SmallLimit (tests_by limits phase set newest nonzero) t due (sym g)).0
 
 -- the limits of a row's line are
 pub limits_limited : (row line : ℕ) → line < line_count row → Limited (limits_of row line)

@@ -39,6 +39,7 @@ fn in_round(terms: Terms, numbers: &[i32]) -> Result<Set, Refusal>
     Ok(tally.set)
 }
 
+// Numbers 4 to 7 in their order, else S and N.
 pub fn judge(
     limits: Limits,
     intercept: i32,

@@ -22,6 +22,7 @@ use Rattle.station_rules.specs.declared.Test.{Test}
 use Rattle.station_rules.specs.declared.Set.{Set}
 use Rattle.station_rules.specs.declared.Limits.{Limits}
 use Rattle.station_rules.proofs.RowFacts.{LimitsFacts, row_facts}
+use Rattle.station_rules.proofs.DueTests.{OfLimits, due_each, first_each}
 use Rattle.station_rules.proofs.Verdicts.{met_is_met}
 
 -- ---- an average of at least 1 is not rounded to 0
@@ -42,53 +43,15 @@ rounded_some (negsuc k) n h g e = quotient_some (suc k) n h g (omega (arith, int
 abbrev Fair : Test → Type 0
 Fair t = (1 ≤ t.limit) × (1 ≤ t.count)
 
-abbrev AllFair : List Test → Type 0
-AllFair [] = Unit {0}
-AllFair (t ∷ ts) = Fair t × AllFair ts
-
-module _ (limits : Limits) (f : LimitsFacts limits) (set : Set) (some' : 1 ≤ set.count) where
-  one_fair : Fair (test_of limits.one set)
-  one_fair = (f.one.least, some')
-
-  two_fair : (p : PastSet) → Fair (test_of limits.two (plus set p))
-  two_fair p = (f.two.least, omega arith)
-
-  three_fair : (p q : PastSet) → Fair (test_of limits.three (plus (plus set p) q))
-  three_fair p q = (f.three.least, omega arith)
-
-  newest_fair : (newest : List PastSet) (ts : List Test) → AllFair ts → AllFair (newest_tests limits set newest ++ ts)
-  unfolding newest_tests
-  newest_fair [] ts f = (one_fair, f)
-  newest_fair (p ∷ []) ts f = (one_fair, (two_fair p, f))
-  newest_fair (p ∷ q ∷ older) ts f = (one_fair, (two_fair p, (three_fair p q, f)))
-
-  five_fair : (nonzero : List PastSet) → AllFair (five_test limits set nonzero)
-  unfolding five_test
-  five_fair [] = tt
-  five_fair (p ∷ []) = tt
-  five_fair (p ∷ q ∷ []) = tt
-  five_fair (p ∷ q ∷ r ∷ []) = tt
-  five_fair (p ∷ q ∷ r ∷ s ∷ older) = go (same_side set.sum p.sum q.sum r.sum s.sum)
-    where
-      go : (b : Bool) → AllFair (cond b (test_of limits.five (plus (plus (plus (plus set p) q) r) s) ∷ []) [])
-      go true = ((f.five.least, omega arith), tt)
-      go false = tt
-
-  due_fair : (phase : LinePhase) (newest nonzero : List PastSet) → AllFair (tests_by limits phase set newest nonzero)
-  unfolding tests_by
-  due_fair new_line newest nonzero = newest_fair newest (five_test limits set nonzero) (five_fair nonzero)
-  due_fair open_line newest nonzero = newest_fair newest (five_test limits set nonzero) (five_fair nonzero)
-  due_fair adjusted_line newest nonzero = ((f.check.least, some'), tt)
-  due_fair shut_line newest nonzero = ((f.check.least, some'), tt)
-
-first_fair : (ts : List Test) (t : Test) → AllFair ts → first_exceeded ts ≡ Some t → Fair t × (exceeded t ≡ true)
-first_fair [] t f e = grind arith
-first_fair (x ∷ ts) t f e = go (exceeded x) refl e (first_fair ts t f.1)
-  where
-    go : (b : Bool) → exceeded x ≡ b → cond b (Some x) (first_exceeded ts) ≡ Some t → (first_exceeded ts ≡ Some t → Fair t × (exceeded t ≡ true))
-        → Fair t × (exceeded t ≡ true)
-    go true g e ih = let q : x ≡ t = cc in subst (λ (y : Test). Fair y × (exceeded y ≡ true)) q (f.0, g)
-    go false g e ih = ih e
+fair_limits : (limits : Limits) → LimitsFacts limits → (set : Set) → 1 ≤ set.count → OfLimits Fair limits set
+fair_limits limits f set some' =
+    record {
+      one = (f.one.least, some');
+      two = λ p. (f.two.least, omega arith);
+      three = λ p q. (f.three.least, omega arith);
+      five = λ p q r s. (f.five.least, omega arith);
+      check = (f.check.least, some');
+    }
 
 -- a test exceeded adjusts by an average that isn't 0
 average_some : (t : Test) → Fair t → exceeded t ≡ true → neg_ℤ (rounded_average t) ≡ pos 0 → ⊥
@@ -114,7 +77,9 @@ module _ (row line : ℕ) (here : line < line_count row) (v : Values) (day : ℕ
       by_test : 1 ≤ set.count → (o : Option Test) → first_exceeded (tests_due limits v day set) ≡ o → judged v.intercept o ≡ Adjusted change → change ≡ pos 0 → ⊥
       by_test some' None g e z = grind arith
       by_test some' (Some t) g e z =
-          adjusted t (first_fair (tests_due limits v day set) t (due_fair limits ((row_facts row).line_limits line here) set some' v.phase (valid_on day v.newest) (valid_on day v.nonzero)) g)
+          let fair = fair_limits limits ((row_facts row).line_limits line here) set some' in
+          let due = due_each Fair limits set fair v.phase (valid_on day v.newest) (valid_on day v.nonzero) in
+          adjusted t (first_each Fair (tests_due limits v day set) t due g)
           (sound_intercept (v.intercept -ℤ rounded_average t)) e z
 
       go : (b : Bool) → eqb set.count 0 ≡ b → cond b Shut (judged v.intercept (first_exceeded (tests_due limits v day set))) ≡ Adjusted change → change ≡ pos 0 → ⊥

@@ -6,6 +6,7 @@ pub mod Phases
 pub mod HeldSets
 pub mod BookValues
 pub mod Verdicts
+pub mod DueTests
 pub mod Adjustments
 pub mod Invariant
 pub mod Agreement
